@@ -1,0 +1,14 @@
+use mathlib.Core.Path.{refl}
+use Rattle.rules.proofs.Rule.{found-answers, found-unique}
+use Rattle.rules.proofs.Listings.{listing-lists, listing-unique, listing-covers}
+use Rattle.rules.proofs.Enters.{entered}
+use Rattle.rules.proofs.theorems.rules_hold.Needs as need
+
+pub returns : need.returns
+returns c = record {
+  answer = λ b t at. (found-answers b t at, found-unique b t at);
+  listing = λ b w t. (listing-lists b w t, listing-unique b w t);
+  covers = listing-covers;
+  enters = entered;
+  value = refl;
+}
