@@ -1,0 +1,3 @@
+//! Searchers over a closed book.
+
+pub mod finder;
