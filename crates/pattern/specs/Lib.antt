@@ -1,0 +1,4 @@
+pub mod Order
+pub mod Contents
+pub mod Closed
+pub mod Entering
