@@ -1,3 +1,5 @@
 //! Searchers over a closed book.
 
+pub mod compare;
 pub mod finder;
+pub mod plain;
