@@ -32,7 +32,10 @@ impl<'a> Reader<'a> {
         if job.len() <= at {
             return Ok(None);
         }
-        let truncated = Fault { refusal: Refusal::Truncated, place: at };
+        let truncated = Fault {
+            refusal: Refusal::Truncated,
+            place: at,
+        };
         if job.len() - at < 4 {
             return Err(truncated);
         }
@@ -67,5 +70,9 @@ fn record_of<'a>(x: u8, y: u8, body: &'a [u8]) -> Result<Record<'a>, Refusal>
 fn bare<'a>(kind: Record<'a>, body: &[u8]) -> Result<Record<'a>, Refusal>
     ensures { λ r. ⌜ entries r ≡ bare (entry (kind .entry)) (now (body .entry)) ⌝ }
 {
-    if body.is_empty() { Ok(kind) } else { Err(Refusal::KindLength) }
+    if body.is_empty() {
+        Ok(kind)
+    } else {
+        Err(Refusal::KindLength)
+    }
 }
