@@ -63,3 +63,30 @@ fn fill(heap: Global, job: &[u8]) -> Result<Filled, Fault>
         at: job.len(),
     })
 }
+
+/// A job whose book is closed, and a reader at its first text.
+#[derive(Drop)]
+pub struct Opened<'a> {
+    pub book: Book,
+    pub texts: Reader<'a>,
+}
+
+/// Reads a job up to its first text, and closes its book there, or else at the job's end.
+pub fn open<'a>(heap: Global, job: &'a [u8]) -> Result<Opened<'a>, Fault>
+    ensures { λ r. ⌜ Cases r (λ o. (opened (now (job .entry)) ≡ Ok (book-of (o .book))) × (now (o .texts .job) ≡ now (job .entry)) × (reading (now (job .entry)) (o .texts .at) ≡ texts (reading (now (job .entry)) 0))) (Refuses (opened (now (job .entry)))) ⌝ }
+{
+    if job.len() > MAX_JOB {
+        return Err(Fault {
+            refusal: Refusal::JobTooLong,
+            place: 0,
+        });
+    }
+    let filled = fill(heap, job)?;
+    let at = filled.at;
+    let patterns = filled.patterns;
+    patterns.check_at(at, patterns.minimum_len().min(4))?;
+    Ok(Opened {
+        book: patterns.close(),
+        texts: Reader { job, at },
+    })
+}

@@ -1,3 +1,4 @@
 pub mod Lookups
 pub mod Entering
 pub mod Trying
+pub mod Shortest

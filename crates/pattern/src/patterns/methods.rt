@@ -1,4 +1,5 @@
 ghost use mathlib.Core.Path.{_≡_};
+ghost use Rattle.rules.specs.Book.{shortest};
 ghost use Rattle.pattern.specs.Contents.{empty, of-kind};
 ghost use Rattle.pattern.specs.Closed.{book-of};
 ghost use Rattle.pattern.specs.Entering.{open-of, Enters, Checks};
@@ -70,6 +71,13 @@ impl Patterns {
         ensures { λ _. ⌜ open-of (now (self .exit)) ≡ of-kind kind (open-of (now (self .entry))) ⌝ }
     {
         self.book.table.set_kind(kind);
+    }
+
+    /// The smallest length of a pattern; `usize::MAX` where there is none.
+    pub fn minimum_len(&self) -> usize
+        ensures { λ r. ⌜ r ≡ shortest (open-of (now (self .entry))) ⌝ }
+    {
+        self.book.table.minimum_len
     }
 
     /// Whether the book may be closed and searched with `masks` masks. After an `Ok` neither refuses.
