@@ -1,1 +1,3 @@
 pub mod Raises
+pub mod Scans
+pub mod Histories

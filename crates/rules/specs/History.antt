@@ -9,14 +9,20 @@
 -- Told-so s es     each event told what the ledger tells, and its hits cover its text under the book in force
 -- Model            what an intake holds
 -- used-by m        how many of its texts count against the limit of 65,535
+-- tally-in m i     what a call for the tally of the pattern i answers
 -- Counted m t m′   m became m′ as the text t was accepted: one text more, and each hit raised its tally
 -- Keeps s m        the intake m has what the ledger has in the state s
 -- Served p m       what is true of the intake m after the past p
 use mathlib.Core.Path.{_≡_}
 use mathlib.Core.List.{List, [], _∷_, _++_}
+use mathlib.Core.Bool.{cond}
 use Prim.Native.Nat.{ℕ, _+_, _<_}
+use lib.Dec.{ltb}
 use lib.ListN.{length, getD, take}
+use Rattle.std.specs.declared.result.Result.{Result}
 use Rattle.std.specs.declared.result.Result.the-variants.{Ok, Err}
+use Rattle.rules.specs.declared.fault.Refusal.{Refusal}
+use Rattle.rules.specs.declared.fault.Refusal.the-variants.{UnknownPattern}
 use Rattle.rules.specs.Book.{Book, count-of}
 use Rattle.rules.specs.Listing.{listing, Covers}
 use Rattle.rules.specs.Entered.{Entered}
@@ -61,6 +67,9 @@ pub record Model : Type 0 where
 
 abbrev pub used-by : Model → ℕ
 used-by m = m .accepted
+
+abbrev pub tally-in : Model → ℕ → Result ℕ Refusal
+tally-in m i = cond (ltb i (count-of (m .book))) (Ok (getD (m .tallies) i 0)) (Err UnknownPattern)
 
 pub record Counted (m : Model) (t : List ℕ) (m′ : Model) : Type 0 where
   pub book : m′ .book ≡ m .book

@@ -9,19 +9,13 @@ use rules::primitives::Match;
 use rules::primitives::PatternID;
 ghost use mathlib.Core.Path.{_≡_};
 ghost use mathlib.Core.List.{_++_};
-ghost use mathlib.Core.Bool.{cond};
 ghost use Prim.Native.Nat.{_≤_};
-ghost use lib.Dec.{ltb};
-ghost use lib.ListN.{length, drop, getD};
-ghost use Rattle.std.specs.Results.{Cases};
-ghost use Rattle.std.specs.declared.result.Result.the-variants.{Ok, Err};
-ghost use Rattle.rules.specs.declared.fault.Refusal.the-variants.{UnknownPattern};
-ghost use Rattle.rules.specs.Book.{count-of};
+ghost use lib.ListN.{length, drop};
 ghost use Rattle.rules.specs.Listing.{listing};
 ghost use Rattle.rules.specs.Faults.{placed, told};
-ghost use Rattle.rules.specs.Ledger.{scan-answer, hits-after, ask-scan, ask-tally, told-scan, told-tally};
-ghost use Rattle.rules.specs.History.{Past, opened, then, state, used-by, Counted};
-ghost use Rattle.intake.specs.Intakes.{model, Serves};
+ghost use Rattle.rules.specs.Ledger.{scan-answer, ask-scan, ask-tally, told-scan, told-tally};
+ghost use Rattle.rules.specs.History.{Past, opened, then, state, used-by, tally-in};
+ghost use Rattle.intake.specs.Intakes.{model, Serves, Scans};
 
 // The number of hits in a text's listing.
 fn count_hits<F: Finder>(finder: &F, text: &[u8]) -> usize
@@ -94,5 +88,67 @@ impl<F: Finder> Intake<F> {
             });
         }
         Ok(n)
+    }
+
+    // Checks, lists, writes and raises.
+    fn scan_text(&mut self, place: usize, text: &[u8], hits: &mut [Match]) -> Result<usize, Fault>
+        ensures { λ r. ⌜ Scans book (now (self .entry)) place (now (text .entry)) (now (hits .entry)) r (now (hits .exit)) (now (self .exit)) ⌝ }
+    {
+        let n = self.check_text(place, text, hits.len())?;
+        write_hits(&self.finder, text, hits);
+        self.table.raise_all(&hits[0..n]);
+        self.accepted += 1;
+        Ok(n)
+    }
+
+    /// Scans a text: its hits go to the front of `hits`, each raises its tally, and the text counts as accepted. It answers
+    /// the number of hits. A text that is too long, one too many or without room for its hits is refused, and nothing is altered.
+    pub fn scan(&mut self, text: &[u8], hits: &mut [Match]) -> Result<usize, Fault>
+        ensures scans { λ r. ⌜ Scans book (now (self .entry)) 0 (now (text .entry)) (now (hits .entry)) r (now (hits .exit)) (now (self .exit)) ⌝ }
+        ensures served { λ r. ⌜ ((p : Past) → Serves book p (now (self .entry)) → Serves book (then p (ask-scan (now (text .entry)) (now (hits .entry))) (told-scan (told r) (now (hits .exit)))) (now (self .exit))) ⌝ }
+    {
+        self.scan_at(0, text, hits)
+    }
+
+    /// The same, with its faults at a place of a job.
+    pub fn scan_at(
+        &mut self,
+        place: usize,
+        text: &[u8],
+        hits: &mut [Match],
+    ) -> Result<usize, Fault>
+        ensures scans { λ r. ⌜ Scans book (now (self .entry)) place (now (text .entry)) (now (hits .entry)) r (now (hits .exit)) (now (self .exit)) ⌝ }
+        ensures served { λ r. ⌜ ((p : Past) → Serves book p (now (self .entry)) → Serves book (then p (ask-scan (now (text .entry)) (now (hits .entry))) (told-scan (told r) (now (hits .exit)))) (now (self .exit))) ⌝ }
+    {
+        self.scan_text(place, text, hits)
+    }
+
+    // The tally that the table has of a pattern of the book.
+    fn tally_of(&self, id: PatternID) -> Result<u32, Fault>
+        ensures { λ r. ⌜ r ≡ placed 0 (tally-in (model book (now (self .entry))) (id .0 .0)) ⌝ }
+    {
+        if id.as_usize() >= self.finder.pattern_count() {
+            return Err(Fault {
+                refusal: Refusal::UnknownPattern,
+                place: 0,
+            });
+        }
+        Ok(self.table.get(id))
+    }
+
+    /// How often a pattern was hit in the texts accepted so far. An id that the book lacks is refused.
+    pub fn tally(&self, id: PatternID) -> Result<u32, Fault>
+        ensures value { λ r. ⌜ r ≡ placed 0 (tally-in (model book (now (self .entry))) (id .0 .0)) ⌝ }
+        ensures served { λ r. ⌜ ((p : Past) → Serves book p (now (self .entry)) → Serves book (then p (ask-tally (id .0 .0)) (told-tally (told r))) (now (self .entry))) ⌝ }
+    {
+        self.tally_of(id)
+    }
+
+    /// How many texts were accepted.
+    pub fn count(&self) -> u32
+        ensures value { λ r. ⌜ r ≡ model book (now (self .entry)) .accepted ⌝ }
+        ensures served { λ r. ⌜ ((p : Past) → Serves book p (now (self .entry)) → r ≡ length (state p .texts)) ⌝ }
+    {
+        self.accepted
     }
 }
