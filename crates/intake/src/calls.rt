@@ -67,3 +67,34 @@ pub fn serve_all<'a, F: Finder>(
     rest.destroy_empty();
     Ok(replies)
 }
+
+/// What a run of calls leaves: the intake, and the reply to each call.
+#[derive(Drop)]
+pub struct Run<F: Finder> {
+    pub intake: Intake<F>,
+    pub replies: Vec<Reply>,
+}
+
+/// What is left where there is no memory for the replies: an intake that served no call, and the calls.
+#[derive(Drop)]
+pub struct Unserved<'a, F: Finder> {
+    pub intake: Intake<F>,
+    pub calls: Vec<Call<'a>>,
+}
+
+/// Makes an intake, and then each call in turn.
+pub fn make_and_serve<'a, F: Finder>(
+    heap: Global,
+    finder: F,
+    calls: Vec<Call<'a>>,
+) -> Result<Run<F>, Unserved<'a, F>>
+    ensures finder { λ r. ⌜ Cases r (λ x. x .intake .finder ≡ finder) (λ x. x .intake .finder ≡ finder) ⌝ }
+    ensures replies { λ r. ⌜ Cases r (λ x. (vec-len (x .replies) ≡ vec-len (calls .entry)) × All Outside (vec-items (x .replies))) (λ x. vec-items (x .calls) ≡ vec-items (calls .entry)) ⌝ }
+    ensures served { λ r. ⌜ Cases r (λ x. Serves book (following (opened (book finder)) (pairs (map asks (vec-items (calls .entry))) (map tell (vec-items (x .replies))))) (x .intake)) (λ x. Serves book (opened (book finder)) (x .intake)) ⌝ }
+{
+    let mut intake = Intake::new(finder);
+    match serve_all(heap, &mut intake, calls) {
+        Ok(replies) => Ok(Run { intake, replies }),
+        Err(calls) => Err(Unserved { intake, calls }),
+    }
+}

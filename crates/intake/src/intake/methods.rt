@@ -111,12 +111,7 @@ impl<F: Finder> Intake<F> {
     }
 
     /// The same, with its faults at a place of a job.
-    pub fn scan_at(
-        &mut self,
-        place: usize,
-        text: &[u8],
-        hits: &mut [Match],
-    ) -> Result<usize, Fault>
+    pub fn scan_at(&mut self, place: usize, text: &[u8], hits: &mut [Match]) -> Result<usize, Fault>
         ensures scans { λ r. ⌜ Scans book (now (self .entry)) place (now (text .entry)) (now (hits .entry)) r (now (hits .exit)) (now (self .exit)) ⌝ }
         ensures served { λ r. ⌜ ((p : Past) → Serves book p (now (self .entry)) → Serves book (then p (ask-scan (now (text .entry)) (now (hits .entry))) (told-scan (told r) (now (hits .exit)))) (now (self .exit))) ⌝ }
     {

@@ -61,9 +61,9 @@ loop-call-again g c =
     let front : take (n + 1) all ≡ take n all ++ call ∷ [] = take-more all n call (in-all g at) ∙ ap (λ x. take n all ++ x ∷ []) (same .0) in
     let even : length (map asks (take n all)) ≡ length (map tell old) = omega (arith, length-map (take n all) asks, length-map old tell, length-take-le n all (i .2), c .loop-call .replies .ok .0) in
     let more : pairs (map asks (take (vec-len (c .push-reserved .last .self)) all)) (map tell (vec-items (c .push-reserved .last .self))) ≡ pairs (map asks (take n all)) (map tell old) ++ record { asked = asks call; told = tell (c .serve .result) } ∷ [] =
-        (λ j. pairs (map asks (take (up j) all)) (map tell (c .push-reserved .ensures .items j)))
-        ∙ (λ j. pairs ((ap (map asks) front ∙ map-push asks (take n all) call) j) (map-push tell old (c .serve .result) j))
-        ∙ pairs-push (map asks (take n all)) (map tell old) (asks call) (tell (c .serve .result)) even in (
+    (λ j. pairs (map asks (take (up j) all)) (map tell (c .push-reserved .ensures .items j)))
+    ∙ (λ j. pairs ((ap (map asks) front ∙ map-push asks (take n all) call) j) (map-push tell old (c .serve .result) j))
+    ∙ pairs-push (map asks (take n all)) (map tell old) (asks call) (tell (c .serve .result)) even in (
       c .serve .ensures .finder ∙ i .0,
       ap (λ k. drop k all) up ∙ same .1,
       omega (arith, up, in-all g at),
