@@ -5,7 +5,8 @@ ghost use Prim.Native.Nat.{_*_, _≤_};
 ghost use lib.ListN.{length};
 ghost use Rattle.intake.specs.Tallies.{tallies, sum};
 
-pub mod methods;
+pub mod reads;
+pub mod scans;
 
 /// The greatest length of a text.
 pub const MAX_TEXT: usize = 65536;

@@ -4,9 +4,9 @@ use native.Mathlib.Omega.{arith}
 use lib.ListN.{length}
 use Rattle.rules.specs.Listing.{rest}
 use Rattle.rules.proofs.Listings.{rest-none, rest-some, rest-short}
-use Rattle.intake.proofs.intake.methods.count_hits.Given as given
-use Rattle.intake.proofs.intake.methods.count_hits.Needs as need
-use Rattle.intake.proofs.intake.methods.count_hits.Needs.{In-Some}
+use Rattle.intake.proofs.intake.scans.count_hits.Given as given
+use Rattle.intake.proofs.intake.scans.count_hits.Needs as need
+use Rattle.intake.proofs.intake.scans.count_hits.Needs.{In-Some}
 
 -- the hit that the turn found is the first of those left
 one-less : (g : given.Over) (c : In-Some g) → length (rest (g .F·Finder .book (c .args .finder .now)) (c .args .text .now) (c .loop-m .at)) ≡ length (c .in-Some .m ∷ rest (g .F·Finder .book (c .args .finder .now)) (c .args .text .now) (c .in-Some .m .end))

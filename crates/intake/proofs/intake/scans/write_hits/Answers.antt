@@ -6,9 +6,9 @@ use lib.ListN.{length, take, drop, take-append-drop}
 use Rattle.std.proofs.shelf.Lists.{take-more-set, drop-set-lt, drop-drop}
 use Rattle.rules.specs.Listing.{rest, listing}
 use Rattle.rules.proofs.Listings.{rest-none, rest-some}
-use Rattle.intake.proofs.intake.methods.write_hits.Given as given
-use Rattle.intake.proofs.intake.methods.write_hits.Needs as need
-use Rattle.intake.proofs.intake.methods.write_hits.Needs.{In-Some}
+use Rattle.intake.proofs.intake.scans.write_hits.Given as given
+use Rattle.intake.proofs.intake.scans.write_hits.Needs as need
+use Rattle.intake.proofs.intake.scans.write_hits.Needs.{In-Some}
 
 -- the hit that the turn found is the first of those left
 next : (g : given.Over) (c : In-Some g) → rest (g .F·Finder .book (c .args .finder .now)) (c .args .text .now) (c .loop-m .at) ≡ c .in-Some .m ∷ rest (g .F·Finder .book (c .args .finder .now)) (c .args .text .now) (c .in-Some .m .end)

@@ -1,20 +1,18 @@
 use crate::intake::Intake;
 use crate::intake::MAX_TEXT;
 use crate::intake::MAX_TEXTS;
-use crate::table::Table;
 use finder::finder::Finder;
 use rules::fault::Fault;
 use rules::fault::Refusal;
 use rules::primitives::Match;
-use rules::primitives::PatternID;
 ghost use mathlib.Core.Path.{_≡_};
 ghost use mathlib.Core.List.{_++_};
 ghost use Prim.Native.Nat.{_≤_};
 ghost use lib.ListN.{length, drop};
 ghost use Rattle.rules.specs.Listing.{listing};
 ghost use Rattle.rules.specs.Faults.{placed, told};
-ghost use Rattle.rules.specs.Ledger.{scan-answer, ask-scan, ask-tally, told-scan, told-tally};
-ghost use Rattle.rules.specs.History.{Past, opened, then, state, used-by, tally-in};
+ghost use Rattle.rules.specs.Ledger.{scan-answer, ask-scan, told-scan};
+ghost use Rattle.rules.specs.History.{Past, then, used-by};
 ghost use Rattle.intake.specs.Intakes.{model, Serves, Scans};
 
 // The number of hits in a text's listing.
@@ -45,23 +43,11 @@ fn write_hits<F: Finder>(finder: &F, text: &[u8], hits: &mut [Match])
 }
 
 impl<F: Finder> Intake<F> {
-    /// An intake that has accepted no text, with all tallies at 0.
-    pub fn new(finder: F) -> Intake<F>
-        ensures finder { λ r. ⌜ r .finder ≡ finder ⌝ }
-        ensures served { λ r. ⌜ Serves book (opened (book finder)) r ⌝ }
-    {
-        Intake {
-            finder,
-            table: Table::new(),
-            accepted: 0,
-        }
-    }
-
     // How many texts count against the limit.
     fn used(&self) -> u32
         ensures { λ r. ⌜ r ≡ used-by (model book (now (self .entry))) ⌝ }
     {
-        self.accepted
+        self.count()
     }
 
     // The first refusal that is due to a text with room for so many hits, else the number of its hits.
@@ -116,34 +102,5 @@ impl<F: Finder> Intake<F> {
         ensures served { λ r. ⌜ ((p : Past) → Serves book p (now (self .entry)) → Serves book (then p (ask-scan (now (text .entry)) (now (hits .entry))) (told-scan (told r) (now (hits .exit)))) (now (self .exit))) ⌝ }
     {
         self.scan_text(place, text, hits)
-    }
-
-    // The tally that the table has of a pattern of the book.
-    fn tally_of(&self, id: PatternID) -> Result<u32, Fault>
-        ensures { λ r. ⌜ r ≡ placed 0 (tally-in (model book (now (self .entry))) (id .0 .0)) ⌝ }
-    {
-        if id.as_usize() >= self.finder.pattern_count() {
-            return Err(Fault {
-                refusal: Refusal::UnknownPattern,
-                place: 0,
-            });
-        }
-        Ok(self.table.get(id))
-    }
-
-    /// How often a pattern was hit in the texts accepted so far. An id that the book lacks is refused.
-    pub fn tally(&self, id: PatternID) -> Result<u32, Fault>
-        ensures value { λ r. ⌜ r ≡ placed 0 (tally-in (model book (now (self .entry))) (id .0 .0)) ⌝ }
-        ensures served { λ r. ⌜ ((p : Past) → Serves book p (now (self .entry)) → Serves book (then p (ask-tally (id .0 .0)) (told-tally (told r))) (now (self .entry))) ⌝ }
-    {
-        self.tally_of(id)
-    }
-
-    /// How many texts were accepted.
-    pub fn count(&self) -> u32
-        ensures value { λ r. ⌜ r ≡ model book (now (self .entry)) .accepted ⌝ }
-        ensures served { λ r. ⌜ ((p : Past) → Serves book p (now (self .entry)) → r ≡ length (state p .texts)) ⌝ }
-    {
-        self.accepted
     }
 }

@@ -3,7 +3,7 @@ use mathlib.Core.Path.{_≡_}
 use mathlib.Core.List.{_++_}
 use lib.ListN.{length, take, drop}
 use Rattle.rules.specs.Listing.{rest, listing}
-use Rattle.intake.proofs.intake.methods.write_hits.Given as given
+use Rattle.intake.proofs.intake.scans.write_hits.Given as given
 
 abbrev pub Inv-loop-m : given.InvT-loop-m
 Inv-loop-m g l =
