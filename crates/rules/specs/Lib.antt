@@ -5,3 +5,6 @@ pub mod Places
 pub mod Listing
 pub mod Entered
 pub mod Theorems
+pub mod Faults
+pub mod Ledger
+pub mod History

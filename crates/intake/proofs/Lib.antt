@@ -1,0 +1,4 @@
+pub mod Raises
+pub mod Scans
+pub mod Histories
+pub mod Runs

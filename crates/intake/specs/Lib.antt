@@ -1,0 +1,3 @@
+pub mod Tallies
+pub mod Intakes
+pub mod Calls
