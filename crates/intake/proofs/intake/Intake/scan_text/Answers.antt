@@ -72,5 +72,5 @@ returns-in-Break-n g c =
     let r = c .from-residual .result in
     let e = err-from-errBy r (c .from-residual .ensures .1) in
     let done : Scans book x (c .args .place) (c .args .text .now) (c .args .hits .now) r (c .args .hits .now) x =
-        scan-refused book x (c .args .place) (c .args .text .now) (c .args .hits .now) r (e .0) (e .1) (e .1 ∙ ap Err (e .2) ∙ c .in-Break-n .ensures tt) in
+    scan-refused book x (c .args .place) (c .args .text .now) (c .args .hits .now) r (e .0) (e .1) (e .1 ∙ ap Err (e .2) ∙ c .in-Break-n .ensures tt) in
     record { scans = done; served = λ p s. serves-scan book p x (c .args .place) _ _ _ _ _ (g .F·Finder·met .within (x .finder)) done s }
