@@ -1,4 +1,5 @@
 //! The run of a whole job, and what it comes to.
 
 pub mod account;
+pub mod run;
 mod scans;

@@ -15,10 +15,11 @@ loop-hit-again c =
     let hits = c .args .hits .now in
     let old = vec-items (c .args .lines .now) in
     let f = line (c .args .text) in
-    let m = getD hits i no-match in
-    ( c .push-reserved .ensures .items ∙ ap (λ xs. xs ++ f m ∷ []) (c .loop-hit .inv .0) ∙ append-assoc old (map f (take i hits)) (f m ∷ []) ∙ ap (λ xs. old ++ xs) (sym (map-push f (take i hits) m)) ∙ ap (λ xs. old ++ map f xs) (sym (take-more hits i no-match (c .loop-hit-test .taken)))
-    , omega (arith, c .push-reserved .ensures .len, c .loop-hit .inv .1)
-    , omega (arith, c .push-reserved .ensures .capacity, c .loop-hit .inv .2) )
+    let m = getD hits i no-match in (
+      c .push-reserved .ensures .items ∙ ap (λ xs. xs ++ f m ∷ []) (c .loop-hit .inv .0) ∙ append-assoc old (map f (take i hits)) (f m ∷ []) ∙ ap (λ xs. old ++ xs) (sym (map-push f (take i hits) m)) ∙ ap (λ xs. old ++ map f xs) (sym (take-more hits i no-match (c .loop-hit-test .taken))),
+      omega (arith, c .push-reserved .ensures .len, c .loop-hit .inv .1),
+      omega (arith, c .push-reserved .ensures .capacity, c .loop-hit .inv .2),
+    )
 
 pub returns : need.returns
 returns c = c .loop-hit .inv .0 ∙ ap (λ xs. vec-items (c .args .lines .now) ++ map (line (c .args .text)) xs) (take-all (c .loop-hit .hit-index) (c .args .hits .now) (c .loop-hit-test .left))
