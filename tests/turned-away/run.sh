@@ -23,14 +23,14 @@ put() {
     echo "$1: $crates" >>"$tmp/crates.txt"
 }
 
-mkdir -p "$tmp/crates" "$tmp/target"
+mkdir -p "$tmp/crates" "$tmp/target/rlib" "$tmp/target/stamp"
 for c in $crates; do
     cp -R "$root/crates/$c" "$tmp/crates/$c"
     grep "^$c:" "$root/crates.txt" >>"$tmp/crates.txt"
-done
-# What an earlier check has proved of these crates need not be proved again.
-for kept in rlib stamp; do
-    [ ! -d "$root/target/$kept" ] || cp -R "$root/target/$kept" "$tmp/target/$kept"
+    # What an earlier check has proved need not be proved again: rt goes by the stamp.
+    for kept in "rlib/$c.rlib" "stamp/$c"; do
+        [ ! -e "$root/target/$kept" ] || cp -R "$root/target/$kept" "$tmp/target/$kept"
+    done
 done
 twin=$(cat "$here/twin.rt.txt")
 put twin "$twin"
