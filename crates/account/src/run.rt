@@ -14,8 +14,8 @@ use crate::account::Line;
 use crate::account::Summary;
 use crate::scans::scan_texts;
 use finder::finder::Finder;
-use finder::plain::Plain;
-use finder::plain::find::PlainFinder;
+use halves::array::ArrayHalf;
+use halves::array::ArrayHalfHalf;
 use intake::intake::Intake;
 use job::opening::open;
 use job::reader::Reader;
@@ -25,6 +25,10 @@ use rules::primitives::PatternID;
 use rules::primitives::SmallIndex;
 use std::alloc::Global;
 use std::rc::Rc;
+use teddy::slim::Slim;
+use teddy::slim::find::SlimFinder;
+use vector::single::Single;
+use vector::single::SingleVector;
 
 /// Every pattern's tally, by rising id.
 fn tallies<F: Finder>(heap: Global, intake: &Intake<F>, count: usize) -> Result<Vec<u32>, Fault>
@@ -58,14 +62,16 @@ fn sum_up<F: Finder + Drop>(
     })
 }
 
-/// Opens a job, scans its texts and sums up.
+/// Opens a job, scans its texts with as many masks as its book permits over one array half, and sums up.
 fn finish(heap: Global, job: &[u8], lines: &mut Vec<Line>) -> Result<Summary, Fault>
     requires { ⌜ vec-items (now lines) ≡ [] ⌝ }
     ensures { λ r. ⌜ Accounts (now (job .entry)) (vec-items (now (lines .exit))) r ⌝ }
 {
     let opened = open(heap, job)?;
+    let masks = opened.book.minimum_len().min(4);
     let book = Rc::new(heap, opened.book)?;
-    sum_up(heap, Plain::new(book), opened.texts, lines)
+    let searcher: Slim<Single<ArrayHalf>> = Slim::new(book, masks);
+    sum_up(heap, searcher, opened.texts, lines)
 }
 
 /// Runs a whole job.

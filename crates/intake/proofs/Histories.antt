@@ -87,3 +87,12 @@ serves-scan book p x at t hs r hs′ x′ w d s = served-scan p at t hs hs′ r 
     done : (r : Result ℕ Fault) → Cases r (λ _. Counted (model book x) t (model book x′)) (λ _. x′ ≡ x) → Cases r (λ _. Counted (model book x) t (model book x′)) (λ _. model book x′ ≡ model book x)
     done (Ok n) c = c
     done (Err f) e = ap (model book) e
+
+-- a refusal alters nothing
+pub scan-refused : {F : Type 0} (book : F → Book) (x : Intake F) (at : ℕ) (t : List ℕ) (hs : List Match) (r : Result ℕ Fault) (f : Fault) → r ≡ Err f → r ≡ placed at (scan-answer (book (x .finder)) (used-by (model book x)) t (length hs)) → Scans book x at t hs r hs x
+scan-refused book x at t hs r f e answer = record {
+  finder = refl;
+  answer = answer;
+  hits = sym (ap (hits-after (book (x .finder)) t hs) e);
+  after = subst (λ y. Cases y (λ _. Counted (model book x) t (model book x)) (λ _. x ≡ x)) (sym e) refl;
+}

@@ -9,6 +9,7 @@ ghost use mathlib.Core.List.{map};
 ghost use Rattle.std.specs.Of.Vec.{vec-items, vec-len};
 ghost use Rattle.std.specs.Results.{Cases};
 ghost use Rattle.std.specs.shelf.Lists.{All};
+ghost use Rattle.rules.specs.Ledger.{ask-scan, ask-tally};
 ghost use Rattle.rules.specs.History.{Past, opened, then};
 ghost use Rattle.intake.specs.Calls.{asks, tell, pairs, following, Outside};
 ghost use Rattle.intake.specs.Intakes.{Serves};
@@ -31,6 +32,24 @@ pub enum Reply {
     Tallied(Result<u32, Fault>),
 }
 
+// Scans a text into a list, and hands the list back.
+fn scan_into<F: Finder>(intake: &mut Intake<F>, text: &[u8], mut hits: Vec<Match>) -> Reply
+    ensures finder { λ _. ⌜ now (intake .exit) .finder ≡ now (intake .entry) .finder ⌝ }
+    ensures outside { λ r. ⌜ Outside r ⌝ }
+    ensures served { λ r. ⌜ ((p : Past) → Serves book p (now (intake .entry)) → Serves book (then p (ask-scan (now (text .entry)) (vec-items hits)) (tell r)) (now (intake .exit))) ⌝ }
+{
+    let answer = intake.scan(text, hits.as_mut_slice());
+    Reply::Scanned(answer, hits)
+}
+
+// Asks for a tally.
+fn tally_of<F: Finder>(intake: &Intake<F>, id: PatternID) -> Reply
+    ensures outside { λ r. ⌜ Outside r ⌝ }
+    ensures served { λ r. ⌜ ((p : Past) → Serves book p (now (intake .entry)) → Serves book (then p (ask-tally (id .0 .0)) (tell r)) (now (intake .entry))) ⌝ }
+{
+    Reply::Tallied(intake.tally(id))
+}
+
 /// Makes one call.
 pub fn serve<F: Finder>(intake: &mut Intake<F>, call: Call<'_>) -> Reply
     ensures finder { λ _. ⌜ now (intake .exit) .finder ≡ now (intake .entry) .finder ⌝ }
@@ -38,11 +57,8 @@ pub fn serve<F: Finder>(intake: &mut Intake<F>, call: Call<'_>) -> Reply
     ensures served { λ r. ⌜ ((p : Past) → Serves book p (now (intake .entry)) → Serves book (then p (asks (call .entry)) (tell r)) (now (intake .exit))) ⌝ }
 {
     match call {
-        Call::Scan { text, mut hits } => {
-            let answer = intake.scan(text, hits.as_mut_slice());
-            Reply::Scanned(answer, hits)
-        }
-        Call::Tally(id) => Reply::Tallied(intake.tally(id)),
+        Call::Scan { text, hits } => scan_into(intake, text, hits),
+        Call::Tally(id) => tally_of(intake, id),
     }
 }
 

@@ -76,9 +76,10 @@ impl<F: Finder> Intake<F> {
         Ok(n)
     }
 
-    // Checks, lists, writes and raises.
+    // Checks a text, then lists, writes, raises and counts.
     fn scan_text(&mut self, place: usize, text: &[u8], hits: &mut [Match]) -> Result<usize, Fault>
-        ensures { λ r. ⌜ Scans book (now (self .entry)) place (now (text .entry)) (now (hits .entry)) r (now (hits .exit)) (now (self .exit)) ⌝ }
+        ensures scans { λ r. ⌜ Scans book (now (self .entry)) place (now (text .entry)) (now (hits .entry)) r (now (hits .exit)) (now (self .exit)) ⌝ }
+        ensures served { λ r. ⌜ ((p : Past) → Serves book p (now (self .entry)) → Serves book (then p (ask-scan (now (text .entry)) (now (hits .entry))) (told-scan (told r) (now (hits .exit)))) (now (self .exit))) ⌝ }
     {
         let n = self.check_text(place, text, hits.len())?;
         write_hits(&self.finder, text, hits);
@@ -93,7 +94,7 @@ impl<F: Finder> Intake<F> {
         ensures scans { λ r. ⌜ Scans book (now (self .entry)) 0 (now (text .entry)) (now (hits .entry)) r (now (hits .exit)) (now (self .exit)) ⌝ }
         ensures served { λ r. ⌜ ((p : Past) → Serves book p (now (self .entry)) → Serves book (then p (ask-scan (now (text .entry)) (now (hits .entry))) (told-scan (told r) (now (hits .exit)))) (now (self .exit))) ⌝ }
     {
-        self.scan_at(0, text, hits)
+        self.scan_text(0, text, hits)
     }
 
     /// The same, with its faults at a place of a job.

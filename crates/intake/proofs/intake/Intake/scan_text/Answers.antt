@@ -4,12 +4,16 @@ use native.Mathlib.Omega.{arith}
 use native.Mathlib.Nat.{sub-zero}
 use lib.ListN.{length, getD, take}
 use Rattle.std.specs.shelf.Lists.{All}
+use Rattle.std.specs.declared.result.Result.the-variants.{Ok, Err}
+use Rattle.std.proofs.shelf.Results.{err-from-errBy}
 use Rattle.rules.specs.Book.{Book, Within}
 use Rattle.rules.specs.Search.{id-of}
 use Rattle.rules.specs.Listing.{listing}
 use Rattle.rules.specs.Ledger.{hits-with}
 use Rattle.rules.proofs.Listings.{rest-short}
 use Rattle.intake.specs.Tallies.{tallies, sum}
+use Rattle.intake.specs.Intakes.{Scans}
+use Rattle.intake.proofs.Histories.{serves-scan, scan-refused}
 use Rattle.intake.proofs.Scans.{Accepted, accepted-at, hits-front, listing-ids}
 use Rattle.intake.proofs.intake.Intake.scan_text.Given as given
 use Rattle.intake.proofs.intake.Intake.scan_text.Needs as need
@@ -47,13 +51,26 @@ ghost-self g c =
 pub returns : need.returns
 returns g c =
     let at = need.at·returns g c .After-write-hits in
-    record {
+    let book = g .F·Finder .book in
+    let x = c .args .self .now in
+    let done : Scans book x (c .args .place) (c .args .text .now) (c .args .hits .now) (Ok (c .in-Continue-n .n)) (c .write-hits .last .hits) _ = record {
       finder = refl;
       answer = c .in-Continue-n .ensures tt;
       hits = c .write-hits .ensures;
       after = record {
         book = refl;
         count = refl;
-        tallies = λ i l. c .raise-all .ensures .raised i ∙ ap (λ ms. getD (tallies (c .args .self .now .table)) i 0 + hits-with i ms) (front g at);
+        tallies = λ i l. c .raise-all .ensures .raised i ∙ ap (λ ms. getD (tallies (x .table)) i 0 + hits-with i ms) (front g at);
       };
-    }
+    } in
+    record { scans = done; served = λ p s. serves-scan book p x (c .args .place) _ _ _ _ _ (within g at) done s }
+
+pub returns-in-Break-n : need.returns-in-Break-n
+returns-in-Break-n g c =
+    let book = g .F·Finder .book in
+    let x = c .args .self .now in
+    let r = c .from-residual .result in
+    let e = err-from-errBy r (c .from-residual .ensures .1) in
+    let done : Scans book x (c .args .place) (c .args .text .now) (c .args .hits .now) r (c .args .hits .now) x =
+    scan-refused book x (c .args .place) (c .args .text .now) (c .args .hits .now) r (e .0) (e .1) (e .1 ∙ ap Err (e .2) ∙ c .in-Break-n .ensures tt) in
+    record { scans = done; served = λ p s. serves-scan book p x (c .args .place) _ _ _ _ _ (g .F·Finder·met .within (x .finder)) done s }

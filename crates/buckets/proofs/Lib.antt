@@ -1,0 +1,4 @@
+pub mod Counts
+pub mod Slices
+pub mod Turns
+pub mod Members

@@ -1,0 +1,2 @@
+mod Loops
+mod Words

@@ -1,0 +1,10 @@
+use borrow.Author.Needs.{needs}
+use Rattle.std.proofs.shelf.Lists.{getD-past}
+use Rattle.halves.proofs.Loops.{filling-more, filling-done}
+use Rattle.halves.proofs.bytes.load.Needs as need
+
+pub loop-i-again : need.loop-i-again
+loop-i-again c = filling-more _ _ _ _ (c .loop-i-test .taken) (search (needs, getD-past)) (c .loop-i .inv)
+
+pub returns : need.returns
+returns c = filling-done _ _ _ (c .loop-i-test .left) (c .loop-i .inv)

@@ -1,0 +1,3 @@
+//! The rolling-hash searcher.
+
+pub mod rabinkarp;

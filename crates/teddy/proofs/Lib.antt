@@ -1,0 +1,4 @@
+pub mod Digits
+pub mod Hits
+pub mod Made
+pub mod Visits

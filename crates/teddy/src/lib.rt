@@ -1,0 +1,5 @@
+//! The mask searcher, over every kind of lanes.
+
+pub mod slim;
+pub mod tables;
+pub mod teddy;

@@ -1,0 +1,4 @@
+pub mod Halves
+pub mod Numbers
+pub mod Rows
+pub mod Words
