@@ -70,6 +70,7 @@ D = PN(b'DC-40') + PN(b'DC-40-R')
 A = PN(b'A')
 r = random.Random(1)
 few = lambda n: bytes(r.choice(b'AB') for _ in range(n))
+full = b''.join(PN(b'%016d' % i) for i in range(1024))  # 1,024 patterns of 16 bytes: 16,384 bytes
 jobs = {
     'dimmer_first': D + TX(b'2 DC-40-R') + TX(b''),
     'last_kind_counts': KL + D + KF + KL + KF + TX(b'2 DC-40-R'),
@@ -94,6 +95,10 @@ jobs = {
     'bytes_16384': PN(b'A' * 16383) + PN(b'B') + TX(b'AB'),
     'fault_3_byte_16385': PN(b'A' * 16383) + PN(b'BC'),
     'fault_3_then_nothing': PN(b'A' * 16384) + A,
+    'patterns_and_bytes_full': full + TX(b'0000000000000000 0000000000001023'),
+    'fault_1_before_3': full + PN(b''),
+    'fault_2_before_3': full + PN(b'B'),
+    'fault_3_before_the_text': PN(b'A' * 16384) + PN(b'B') + TX(b'AB'),
     'fault_4_empty_job': b'',
     'fault_4_at_the_end': KL + KF,
     'fault_4_at_a_text': KL + TX(b'A'),
@@ -105,7 +110,11 @@ jobs = {
     'fault_10_job_65537': A + TX(b'.' * 65527 + b'A'),
     'fault_10_before_12': b'?' * 65537,
     'fault_11_one_byte': b'P',
+    'fault_11_two_bytes': b'PN',
     'fault_11_three_bytes': A + b'PN\1',
+    'fault_11_before_13': A + b'KL\1\0',
+    'fault_11_before_14': A + TX(b'A') + b'PN\2\0B',
+    'fault_11_before_1_to_3': full + b'PN\2\0B',
     'fault_11_one_byte_missing': A + TX(b'ABC')[:-1],
     'fault_11_before_12': b'??\1\0',
     'fault_11_second_text': A + TX(b'BA') + b'TX\2\0A',
@@ -119,6 +128,7 @@ jobs = {
     'fault_13_before_14': A + TX(b'A') + rec(b'KL', b'\0'),
     'fault_14_pattern': A + TX(b'A') + PN(b'B'),
     'fault_14_before_1': A + TX(b'A') + PN(b''),
+    'fault_14_before_2': full + TX(b'A') + PN(b'B'),
     'fault_14_kind': A + TX(b'') + KF,
     'fault_14_second_kind': A + TX(b'') + TX(b'A') + KL,
     'length_of_two_bytes': PN(b'Z' * 300) + TX(b'Y' + b'Z' * 300),

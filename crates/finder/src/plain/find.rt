@@ -1,6 +1,6 @@
 ghost use mathlib.Core.Path.{_≡_};
 ghost use Rattle.std.specs.Of.Rc.{rc-value};
-ghost use Rattle.rules.specs.Search.{Answers};
+ghost use Rattle.rules.specs.Search.{found};
 ghost use Rattle.rules.specs.Places.{AnswersAt};
 ghost use Rattle.pattern.specs.Closed.{book-of};
 ghost use Rattle.finder.specs.Plain.{searched};
@@ -38,7 +38,7 @@ impl Plain {
 
     /// Tries place after place.
     fn find_from(&self, text: &[u8], at: usize) -> Option<Match>
-        ensures { λ r. ⌜ Answers (searched (now (self .entry))) (now (text .entry)) at r ⌝ }
+        ensures { λ r. ⌜ r ≡ found (searched (now (self .entry))) (now (text .entry)) at ⌝ }
     {
         for start in at..text.len() {
             if let Some(hit) = find_here(&self.book, text, start) {
