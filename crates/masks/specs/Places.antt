@@ -8,6 +8,7 @@
 -- RecallsAll admits c low n at t p q r   the same of the first three masks, so far as a later one of the c follows
 -- Windowed admits c low n at t p q r xs p′ q′ r′   where p, q, r recall the bytes before the window, xs shows its candidates, and
 --                                    p′, q′, r′ recall the bytes before the next one
+-- Exact n means m at t seen r seen′   what `window` does at a place, for the masks of every book: r shows exactly the candidates
 -- MasksOf n means m b ids key        the vectors of m hold the masks of the book b, of which one to four are used
 use mathlib.Core.List.{List}
 use mathlib.Core.Logic.{_↔_}
@@ -17,7 +18,9 @@ use Rattle.bits.specs.Digits.{IsSet}
 use Rattle.rules.specs.Book.{Book}
 use Rattle.vector.specs.Lanes.{lane}
 use Rattle.tables.specs.Masks.{low-mask, high-mask}
+use Rattle.tables.specs.Rules.{Admits}
 use Rattle.masks.specs.declared.candidate.Masks.{Masks}
+use Rattle.masks.specs.declared.candidate.Seen.{Seen}
 use Rattle.masks.specs.Members.{repeated}
 
 abbrev pub Candidate : (ℕ → ℕ → ℕ → Type 0) → ℕ → ℕ → List ℕ → ℕ → ℕ → Type 0
@@ -46,3 +49,8 @@ pub record MasksOf {A : Type 0} (n : ℕ) (means : A → List ℕ) (m : Masks A)
   pub hi₃ : means (m .third .hi) ≡ repeated n (high-mask b ids key 2)
   pub lo₄ : means (m .fourth .lo) ≡ repeated n (low-mask b ids key 3)
   pub hi₄ : means (m .fourth .hi) ≡ repeated n (high-mask b ids key 3)
+
+abbrev pub Exact : {A : Type 0} → ℕ → (A → List ℕ) → Masks A → ℕ → List ℕ → Seen A → A → Seen A → Type 0
+Exact n means m at t seen r seen′ =
+    (b : Book) (ids : List ℕ) (key : ℕ → ℕ) (low : ℕ) → MasksOf n means m b ids key → low ≤ at
+    → Windowed (Admits b ids key) (m .count) low n at t (means (seen .first)) (means (seen .second)) (means (seen .third)) (means r) (means (seen′ .first)) (means (seen′ .second)) (means (seen′ .third))

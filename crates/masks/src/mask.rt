@@ -51,9 +51,16 @@ impl<V: Vector> Mask<V> {
     pub fn members1(chunk: V, mask: Mask<V>) -> V
         ensures { λ r. ⌜ lanes r ≡ admitted count lanes mask (lanes chunk) ⌝ }
     {
+        mask.look_up(chunk)
+    }
+
+    /// Looks both nybbles of each byte up, and takes the buckets that both have.
+    fn look_up(self, chunk: V) -> V
+        ensures { λ r. ⌜ lanes r ≡ admitted count lanes self (lanes chunk) ⌝ }
+    {
         let (hlo, hhi) = nybbles(chunk);
-        let locand = mask.lo.shuffle_bytes(hlo);
-        let hicand = mask.hi.shuffle_bytes(hhi);
+        let locand = self.lo.shuffle_bytes(hlo);
+        let hicand = self.hi.shuffle_bytes(hhi);
         locand.and(hicand)
     }
 

@@ -1,9 +1,5 @@
 //! The candidates of a text's windows, place by place.
-ghost use mathlib.Core.List.{List};
-ghost use Prim.Native.Nat.{ℕ, _≤_};
-ghost use Rattle.rules.specs.Book.{Book};
-ghost use Rattle.tables.specs.Rules.{Admits};
-ghost use Rattle.masks.specs.Places.{MasksOf, Windowed};
+ghost use Rattle.masks.specs.Places.{Exact};
 use crate::candidate::Masks;
 use crate::candidate::Seen;
 use crate::candidate::candidate;
@@ -13,7 +9,14 @@ use vector::vector::Vector;
 /// admits the bucket k for the byte j behind the lane's place, for all j below the mask count. Of these bytes only those are
 /// tested that were loaded since `seen` was blank; `seen` then holds what the masks admitted here.
 pub fn window<V: Vector>(text: &[u8], at: usize, masks: &Masks<V>, seen: &mut Seen<V>) -> V
-    ensures { λ r. ⌜ ((b : Book) (ids : List ℕ) (key : ℕ → ℕ) (low : ℕ) → MasksOf count lanes (now (masks .entry)) b ids key → low ≤ at → Windowed (Admits b ids key) (now (masks .entry) .count) low count at (now (text .entry)) (lanes (now (seen .entry) .first)) (lanes (now (seen .entry) .second)) (lanes (now (seen .entry) .third)) (lanes r) (lanes (now (seen .exit) .first)) (lanes (now (seen .exit) .second)) (lanes (now (seen .exit) .third))) ⌝ }
+    ensures { λ r. ⌜ Exact count lanes (now (masks .entry)) at (now (text .entry)) (now (seen .entry)) r (now (seen .exit)) ⌝ }
+{
+    loaded_window(text, at, masks, seen)
+}
+
+/// Loads the window, and asks for its candidates.
+fn loaded_window<V: Vector>(text: &[u8], at: usize, masks: &Masks<V>, seen: &mut Seen<V>) -> V
+    ensures { λ r. ⌜ Exact count lanes (now (masks .entry)) at (now (text .entry)) (now (seen .entry)) r (now (seen .exit)) ⌝ }
 {
     candidate(V::load(text, at), masks, seen)
 }

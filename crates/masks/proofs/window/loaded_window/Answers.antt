@@ -10,7 +10,7 @@ use Rattle.masks.specs.Candidates.{met, kept}
 use Rattle.masks.specs.Places.{Shows, Recalls}
 use Rattle.masks.proofs.Exact.{Sees, newer, shows, recalls}
 use Rattle.masks.proofs.Loaded.{sees}
-use Rattle.masks.proofs.window.window.Needs as need
+use Rattle.masks.proofs.window.loaded_window.Needs as need
 
 pub returns : need.returns
 returns g c b ids key low of le saw =
