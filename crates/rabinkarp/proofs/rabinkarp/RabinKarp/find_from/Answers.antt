@@ -1,11 +1,11 @@
-use mathlib.Core.Path.{_≡_, sym, ap, subst, _∙_}
+use mathlib.Core.Path.{_≡_, ap, subst, _∙_}
 use mathlib.Core.List.{List}
 use mathlib.Core.Logic.{inl, inr}
 use Prim.Native.Nat.{ℕ, _+_, _-_, _≤_, _<_}
 use native.Mathlib.Omega.{arith}
 use lib.ListN.{length, getD}
 use Rattle.std.specs.Of.Rc.{rc-value}
-use Rattle.std.specs.declared.option.Option.the-variants.{Some, None}
+use Rattle.std.specs.declared.option.Option.the-variants.{Some}
 use Rattle.std.proofs.shelf.Tests.{cases-lt}
 use Rattle.rules.specs.Book.{shortest}
 use Rattle.rules.specs.Search.{id-of, OccursAt}
@@ -14,7 +14,7 @@ use Rattle.hash.specs.Hash.{hash-of, window, leading, moved}
 use Rattle.hash.proofs.Windows.{rolling}
 use Rattle.rabinkarp.specs.declared.rabinkarp.RabinKarp.{RabinKarp}
 use Rattle.rabinkarp.specs.Searched.{searched}
-use Rattle.rabinkarp.proofs.Prefixes.{shortest-le, shortest-pos}
+use Rattle.pattern.proofs.Shortest.{shortest-le, shortest-pos}
 use Rattle.rabinkarp.proofs.rabinkarp.RabinKarp.find_from.Needs as need
 use Rattle.rabinkarp.proofs.rabinkarp.RabinKarp.find_from.Needs.{then-at-text·by·then-at-text, then-at-text·by·else-at-text·then-text-at}
 

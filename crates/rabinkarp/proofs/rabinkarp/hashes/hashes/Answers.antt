@@ -1,11 +1,11 @@
-use mathlib.Core.Path.{_≡_, ap}
+use mathlib.Core.Path.{ap}
 use Prim.Native.Nat.{_≤_}
 use native.Mathlib.Omega.{arith}
 use borrow.Author.Needs.{needs}
 use denote.Ref.{now}
 use lib.ListN.{length}
 use Rattle.pattern.specs.Closed.{book-of}
-use Rattle.rabinkarp.proofs.Prefixes.{shortest-le}
+use Rattle.pattern.proofs.Shortest.{shortest-le}
 use Rattle.rabinkarp.proofs.rabinkarp.hashes.hashes.Needs as need
 
 pub part-hash-end : need.part-hash-end
