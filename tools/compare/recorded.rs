@@ -15,16 +15,17 @@ pub fn record(seed: u64, path: &str) {
     while entries < ENTRIES {
         let (case, places) = books::case(&mut random);
         let job = case.job();
-        if job.len() > 400 && !(random.one_in(20) && job.len() < 3000) {
+        // mostly small jobs, so that the list is short
+        if job.len() > 160 && !random.one_in(if job.len() < 600 { 6 } else { 60 }) || job.len() > 9000 {
             continue;
         }
         let rust = Rust::new(case.longest, &case.patterns);
         let ways: Vec<_> = ways(case.shortest()).collect();
         for _ in 0..3 {
-            let place = *random.pick(&places);
-            let way = *random.pick(&ways);
+            let place = if random.one_in(2) { 0 } else { *random.pick(&places) };
+            let way = if random.one_in(2) { *ways.last().unwrap() } else { *random.pick(&ways) };
             let (hit, slim) = rust.find(way, &case.text, place);
-            if hit.is_none() && (entries - hits) * 2 > entries {
+            if entries == ENTRIES || hit.is_none() && (entries - hits) * 2 > entries {
                 continue;
             }
             out.extend((job.len() as u16).to_le_bytes());
