@@ -64,7 +64,7 @@ same-kept f g k (x ∷ xs) h =
     ∙ ap (λ q. cond (eqb (g x) k) (x ∷ q) q) (same-kept f g k xs (λ i l. h (suc i) (omega arith)))
 
 -- the order of a closed book
-ordered : (b : Book) → ReadingOrder (book-of b) (order-in b)
+pub ordered : (b : Book) → ReadingOrder (book-of b) (order-in b)
 ordered b = reading-order (b .table) record {
   summed = b .summed;
   least = b .least;

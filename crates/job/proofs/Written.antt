@@ -108,7 +108,7 @@ module _ (pre : List ℕ) (e : Entry) (rest : List ℕ) where
       let head = mark e ++ (length (body e) % 256 ∷ (length (body e) / 256 ∷ [])) in
       omega (arith, length-append pre (front e rest), ap length head-is, length-append head (body e ++ rest), length-append (body e) rest, head-long)
 
-  pub step-written : step whole at ≡ good e (at + 4 + length (body e))
+  step-written : step whole at ≡ good e (at + 4 + length (body e))
   step-written =
       step-whole whole at (omega (arith, size-is, long))
       ∙ (λ i. settled (made-of (first-byte i) (second-byte i) (taken i)) (at + 4 + size-is i))
@@ -117,12 +117,12 @@ module _ (pre : List ℕ) (e : Entry) (rest : List ℕ) where
       taken : format.body whole (length pre) ≡ body e
       taken = (λ i. take (size-is i) (behind i)) ∙ take-at (body e) rest (length (body e)) refl
 
-  pub written-long : length (pre ++ written e) ≡ at + 4 + length (body e)
+  written-long : length (pre ++ written e) ≡ at + 4 + length (body e)
   written-long =
       let head = mark e ++ (length (body e) % 256 ∷ (length (body e) / 256 ∷ [])) in
       omega (arith, length-append pre (written e), ap length (append-assoc (mark e) (length (body e) % 256 ∷ (length (body e) / 256 ∷ [])) (body e)), length-append head (body e), head-long)
 
-  pub step-here : step (pre ++ (written e ++ rest)) at ≡ good e (at + 4 + length (body e))
+  step-here : step (pre ++ (written e ++ rest)) at ≡ good e (at + 4 + length (body e))
   unfolding whole
   step-here = ap (λ xs. step (pre ++ xs) at) (written-front e rest) ∙ step-written
 

@@ -13,6 +13,7 @@ use std::rc::Rc;
 
 pub mod find;
 mod hashes;
+pub mod reads;
 
 /// The tables of a searcher, and the book that they are of.
 #[derive(Drop)]

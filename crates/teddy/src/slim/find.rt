@@ -2,7 +2,7 @@ ghost use mathlib.Core.Path.{_≡_};
 ghost use Prim.Native.Nat.{_+_, _≤_};
 ghost use lib.ListN.{length};
 ghost use Rattle.std.specs.Of.Rc.{rc-value};
-ghost use Rattle.rules.specs.Search.{Answers};
+ghost use Rattle.rules.specs.Search.{found};
 ghost use Rattle.pattern.specs.Closed.{book-of};
 ghost use Rattle.masks.specs.Places.{MasksOf};
 ghost use Rattle.teddy.specs.Held.{book-in, ids-in, key-in, nearest};
@@ -25,7 +25,7 @@ fn windows<V: Vector>(teddy: &Teddy, masks: &Masks<V>, text: &[u8], from: usize)
     requires masks { ⌜ MasksOf count lanes (now masks) (book-in (now teddy .tables)) (ids-in (now teddy .tables)) (key-in (now teddy .tables)) ⌝ }
     requires counted { ⌜ now masks .count ≡ now teddy .tables .count ⌝ }
     requires room { ⌜ from + count + now masks .count ≤ length (now text) + 1 ⌝ }
-    ensures { λ r. ⌜ Answers (book-in (now (teddy .entry) .tables)) (now (text .entry)) from r ⌝ }
+    ensures { λ r. ⌜ r ≡ found (book-in (now (teddy .entry) .tables)) (now (text .entry)) from ⌝ }
 {
     let lanes = V::lane_count();
     let back = masks.count - 1;

@@ -43,7 +43,7 @@ loop-i-again c =
     let b = book-of (c .args .book .now) in
     let p = c .args .pattern .now in
     c .loop-i .inv ∙ leader-later b p (order-in (c .args .book .now)) (c .loop-i .i) (turn a)
-      (λ same. c .if-same-front .ensures tt (subst (Alike (now (c .get .result)) p) (sym (fronts r)) (subst (λ q. Alike q p (front b)) (sym (earlier-is a)) same)))
+    (λ same. c .if-same-front .ensures tt (subst (Alike (now (c .get .result)) p) (sym (fronts r)) (subst (λ q. Alike q p (front b)) (sym (earlier-is a)) same)))
 
 pub returns : need.returns
 returns c =

@@ -8,9 +8,10 @@ use denote.Ref.{now}
 use lib.ListN.{getD, length}
 use Rattle.std.proofs.shelf.Tests.{cases-lt}
 use Rattle.std.proofs.shelf.Lists.{length-map}
-use Rattle.std.specs.declared.option.Option.the-variants.{Some}
+use Rattle.std.specs.declared.option.Option.the-variants.{Some, None}
 use Rattle.rules.specs.Book.{pattern}
-use Rattle.rules.specs.Search.{Stands, Answers, hit}
+use Rattle.rules.specs.Search.{Stands, hit}
+use Rattle.rules.proofs.Rule.{found-unique}
 use Rattle.pattern.specs.Order.{number}
 use Rattle.pattern.specs.declared.book.Book.{Book as Closed}
 use Rattle.rabinkarp.specs.Searched.{shared}
@@ -158,7 +159,7 @@ returns-in-Some-verify g c =
     x lo (omega arith) in
     let hits = hit-answers (shared (t .rabinkarp)) text (bit % 8) start (c .args .from) (c .loop-i .i) (omega (arith, c .search .inv .0)) (omega (arith, long g a, c .loop-i-test .taken))
     (subst (λ m. Stands (pattern (book-in t) m) text start) is (got .0)) (c .loop-i .inv) before in
-    subst (λ h. Answers (book-in t) text (c .args .from) (Some h)) (sym (got .1 ∙ ap (λ m. hit (book-in t) m start) is)) hits
+    ap Some (got .1 ∙ ap (λ m. hit (book-in t) m start) is) ∙ found-unique (book-in t) text (c .args .from) (Some (hit (book-in t) (getD row (c .loop-i .i) 0) start)) hits
 
 -- no digit of the text is left behind the last window
 pub returns-then-at-end : need.returns-then-at-end
@@ -166,11 +167,12 @@ returns-then-at-end g c =
     let all-tried = window-below g (need.at·returns-then-at-end g c .After-window-found) (8 * g .V·Vector .count) (omega arith) (clean g (need.at·returns-then-at-end g c .Joined-not-is-zero)) in
     let h = c .args .teddy .now in
     let top = 8 * (c .search .at - (c .args .masks .now .count - 1)) + 8 * g .V·Vector .count in
-    none-answers (shared (h .tables .rabinkarp)) (c .args .text .now) (c .args .from)
+    found-unique (book-in (h .tables)) (c .args .text .now) (c .args .from) None
+    (none-answers (shared (h .tables .rabinkarp)) (c .args .text .now) (c .args .from)
     (λ x lo z. ⊎-elim
     (λ (l : x < top). all-tried x lo l z)
     (λ (r : top ≤ x). omega (arith, z .1 .stands .0, shortest-le (book-in (h .tables)) (z .0) (z .1 .known), h .few, c .pre .counted, c .lane-count-lanes .ensures))
-    (cases-lt x top))
+    (cases-lt x top)))
 
 pub search-again-then-end-at : need.search-again-then-end-at
 search-again-then-end-at g c =
