@@ -50,7 +50,14 @@ impl<'a> Entries<'a> {
 
 fn agrees(heap: Global, entry: &Entry<'_>) -> bool {
     let mut out = [0; 12];
-    let number = find(heap, entry.job, entry.place, entry.searcher, entry.masks, &mut out);
+    let number = find(
+        heap,
+        entry.job,
+        entry.place,
+        entry.searcher,
+        entry.masks,
+        &mut out,
+    );
     number == entry.number && &out[0..12] == entry.written
 }
 
@@ -73,5 +80,8 @@ fn main(rt: LibcRuntime) -> io::Result<()> {
         }
     }
     let read = entries.at;
-    println!(rt, "{same} answers are the Rust's, {others} are not; {read} bytes read")
+    println!(
+        rt,
+        "{same} answers are the Rust's, {others} are not; {read} bytes read"
+    )
 }

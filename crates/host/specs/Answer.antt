@@ -3,6 +3,7 @@
 -- answer job place x      the hit, or else the number that is answered instead of it
 -- code d                  the number that the answer d has: 0 for a hit
 -- after d old             the bytes of the buffer then: those of the hit, else the old ones
+-- Small-answer d          the numbers of a hit are small, so that four bytes hold each
 -- Replies x d r old new   the number r, and a buffer that held old and then new, are those of the answer d; a call in order may
 --                         also meet want of memory, which has the number 103 and writes nothing
 use mathlib.Core.Path.{_≡_}
@@ -23,7 +24,7 @@ use Rattle.host.specs.declared.search.Outcome.{Outcome}
 use Rattle.host.specs.declared.search.Outcome.the-variants.{NoText, NoHit, Hit}
 use Rattle.host.specs.declared.searcher.Searcher.{Searcher}
 use Rattle.host.specs.Searchers.{searcher-of}
-use Rattle.host.specs.Outcomes.{outcome}
+use Rattle.host.specs.Outcomes.{outcome, Small}
 use Rattle.host.specs.Written.{written}
 
 abbrev pub called : ℕ → ℕ → ℕ → Option Searcher
@@ -46,6 +47,10 @@ code (Err n) = n
 abbrev pub after : Result Match ℕ → List ℕ → List ℕ
 after (Ok m) old = written m
 after (Err n) old = old
+
+abbrev pub Small-answer : Result Match ℕ → Type 0
+Small-answer (Ok m) = Small m
+Small-answer (Err n) = Unit {0}
 
 abbrev pub Replies : Option Searcher → Result Match ℕ → ℕ → List ℕ → List ℕ → Type 0
 Replies x d r old new = ((r ≡ code d) × (new ≡ after d old)) ⊎ ((isSome x ≡ true) × (r ≡ 103) × (new ≡ old))

@@ -6,11 +6,13 @@
 -- in-book d x t place    the same, where closing the book answered d and the searcher x is used
 -- outcome job place x    what the search of a job's first text comes to, or else the first refusal up to that text
 -- Turned-down d e        the fault e has the refusal of the defined answer d, or is want of memory
+-- Small m                the id, the start and the end of a match are those of a book and a text within the bounds
+-- Small-hit r            that of the hit, if the search came to one
 use mathlib.Core.Path.{_≡_}
 use mathlib.Core.List.{List, [], _∷_}
 use mathlib.Core.Bool.{cond}
 use mathlib.Core.Logic.{_⊎_}
-use Prim.Native.Nat.{ℕ}
+use Prim.Native.Nat.{ℕ, _≤_, _<_}
 use Rattle.std.specs.declared.option.Option.{Option}
 use Rattle.std.specs.declared.option.Option.the-variants.{Some, None}
 use Rattle.std.specs.declared.result.Result.{Result}
@@ -20,7 +22,7 @@ use Rattle.rules.specs.declared.fault.Refusal.{Refusal}
 use Rattle.rules.specs.declared.fault.Refusal.the-variants.{BadMaskCount, Memory}
 use Rattle.rules.specs.declared.primitives.Match.{Match}
 use Rattle.rules.specs.Book.{Book}
-use Rattle.rules.specs.Search.{found}
+use Rattle.rules.specs.Search.{id-of, found}
 use Rattle.job.specs.Format.{Entry, pattern, first, longest, text, Step, over, bad, good}
 use Rattle.job.specs.Records.{Item, reading}
 use Rattle.job.specs.Opening.{texts, opened}
@@ -65,3 +67,12 @@ outcome job place x = in-book (opened job) x (first-text job) place
 
 abbrev pub Turned-down : Result Outcome Refusal → Fault → Type 0
 Turned-down d e = (e .refusal ≡ Memory) ⊎ (d ≡ Err (e .refusal))
+
+abbrev pub Small : Match → Type 0
+Small m = (id-of m < 1024) × (m .start ≤ 65536) × (m .end ≤ 65536)
+
+abbrev pub Small-hit : Result Outcome Fault → Type 0
+Small-hit (Ok NoText) = Unit {0}
+Small-hit (Ok NoHit) = Unit {0}
+Small-hit (Ok (Hit m)) = Small m
+Small-hit (Err e) = Unit {0}

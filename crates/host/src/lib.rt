@@ -1,7 +1,8 @@
 //! The find that a host program calls.
 
+ghost use mathlib.Core.Path.{_≡_};
 ghost use lib.ListN.{length};
-ghost use Rattle.host.specs.Answer.{called, answer, Replies};
+ghost use Rattle.host.specs.Answer.{called, answer, Small-answer, Replies};
 use crate::search::Outcome;
 use crate::search::search;
 use crate::searcher::Searcher;
@@ -40,7 +41,8 @@ pub extern "C" fn find(
     masks: usize,
     out: &mut [u8],
 ) -> u32
-    ensures { λ r. ⌜ Replies (called searcher masks (length (now (out .entry)))) (answer (now (job .entry)) place (called searcher masks (length (now (out .entry))))) r (now (out .entry)) (now (out .exit)) ⌝ }
+    ensures answer { λ r. ⌜ Replies (called searcher masks (length (now (out .entry)))) (answer (now (job .entry)) place (called searcher masks (length (now (out .entry))))) r (now (out .entry)) (now (out .exit)) ⌝ }
+    ensures small { λ r. ⌜ (r ≡ 0 → Small-answer (answer (now (job .entry)) place (called searcher masks (length (now (out .entry)))))) ⌝ }
 {
     if out.len() != 12 {
         return MISCALLED;

@@ -4,7 +4,7 @@ ghost use Rattle.std.specs.Options.{Cases as BySome};
 ghost use Rattle.std.specs.declared.option.Option.the-variants.{Some, None};
 ghost use Rattle.std.specs.declared.result.Result.the-variants.{Ok, Err};
 ghost use Rattle.job.specs.Format.{step};
-ghost use Rattle.host.specs.Outcomes.{text-in, outcome, Turned-down};
+ghost use Rattle.host.specs.Outcomes.{text-in, outcome, Turned-down, Small-hit};
 use crate::searcher::Searcher;
 use job::opening::open;
 use job::reader::Reader;
@@ -43,7 +43,8 @@ pub(crate) fn search(
     place: usize,
     searcher: Searcher,
 ) -> Result<Outcome, Fault>
-    ensures { λ r. ⌜ Cases r (λ o. outcome (now (job .entry)) place searcher ≡ Ok o) (Turned-down (outcome (now (job .entry)) place searcher)) ⌝ }
+    ensures outcome { λ r. ⌜ Cases r (λ o. outcome (now (job .entry)) place searcher ≡ Ok o) (Turned-down (outcome (now (job .entry)) place searcher)) ⌝ }
+    ensures small { λ r. ⌜ Small-hit r ⌝ }
 {
     let opened = open(heap, job)?;
     if searcher.misfits(&opened.book) {
