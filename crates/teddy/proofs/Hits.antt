@@ -19,7 +19,7 @@ use Rattle.pattern.specs.Closed.{book-of, order-in}
 use Rattle.finder.proofs.Choosing.{chosen-first, chosen-none}
 use Rattle.buckets.specs.Buckets.{in-bucket}
 use Rattle.buckets.proofs.Members.{ordered, bucket-known, bucket-all, bucket-preferred}
-use Rattle.rabinkarp.proofs.Prefixes.{shortest-le}
+use Rattle.pattern.proofs.Shortest.{shortest-le}
 use Rattle.tables.specs.Buckets.{front, bucket-of}
 use Rattle.tables.specs.Masks.{byte-of}
 use Rattle.tables.specs.Rules.{Bears, Admits}

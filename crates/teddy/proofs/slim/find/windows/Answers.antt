@@ -15,7 +15,7 @@ use Rattle.rules.proofs.Rule.{found-unique}
 use Rattle.pattern.specs.Order.{number}
 use Rattle.pattern.specs.declared.book.Book.{Book as Closed}
 use Rattle.rabinkarp.specs.Searched.{shared}
-use Rattle.rabinkarp.proofs.Prefixes.{shortest-le}
+use Rattle.pattern.proofs.Shortest.{shortest-le}
 use Rattle.finder.proofs.Choosing.{read}
 use Rattle.bits.specs.Digits.{IsSet}
 use Rattle.buckets.specs.Buckets.{in-bucket}

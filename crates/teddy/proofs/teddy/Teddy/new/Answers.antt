@@ -5,7 +5,7 @@ use denote.Ref.{now}
 use Rattle.pattern.specs.declared.book.Book.{Book as Closed}
 use Rattle.pattern.specs.Closed.{book-of, order-in}
 use Rattle.rabinkarp.specs.Searched.{shared}
-use Rattle.rabinkarp.proofs.Prefixes.{shortest-pos}
+use Rattle.pattern.proofs.Shortest.{shortest-pos}
 use Rattle.buckets.specs.Buckets.{members, in-bucket}
 use Rattle.tables.specs.declared.mask.MaskTable.{MaskTable}
 use Rattle.tables.specs.Buckets.{front}
