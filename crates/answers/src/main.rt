@@ -9,6 +9,7 @@ use std::io;
 const HEAD: usize = 19;
 
 /// A call, the number that is answered, and the twelve bytes that are then in its buffer, which begins as zeros.
+#[derive(Drop)]
 struct Entry<'a> {
     job: &'a [u8],
     place: usize,
@@ -20,6 +21,7 @@ struct Entry<'a> {
 
 /// A list, and the place of its next entry: a job's length and a place in two bytes each, low byte first, a searcher's number,
 /// a mask count and the number that is answered in one each, the twelve bytes, and the job.
+#[derive(Drop)]
 struct Entries<'a> {
     bytes: &'a [u8],
     at: usize,
