@@ -1,0 +1,4 @@
+pub mod Written
+pub mod Searchers
+pub mod Outcomes
+pub mod Answer

@@ -1,0 +1,3 @@
+pub(crate) mod int;
+pub(crate) mod primitives;
+pub(crate) mod search;
