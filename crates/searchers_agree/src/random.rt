@@ -3,12 +3,12 @@ use std::alloc::Global;
 
 /// Numbers that look random and are the same in each run.
 #[derive(Drop)]
-pub struct Random {
+pub(crate) struct Random {
     state: u64,
 }
 
 impl Random {
-    pub fn new(seed: u64) -> Random {
+    pub(crate) fn new(seed: u64) -> Random {
         Random { state: seed }
     }
 
@@ -20,13 +20,13 @@ impl Random {
     }
 
     /// A number below `n`, or 0 where `n` is 0.
-    pub fn below(&mut self, n: usize) -> usize {
+    pub(crate) fn below(&mut self, n: usize) -> usize {
         let next = self.next();
         if n == 0 { 0 } else { next % n }
     }
 
     /// `len` of the first `letters` letters.
-    pub fn letters(
+    pub(crate) fn letters(
         &mut self,
         heap: Global,
         len: usize,
