@@ -1,5 +1,7 @@
 //! Replays a stored list of the Rust's answers: each call has to answer the same number and write the same bytes.
 //! `tools/compare/run --record crates/answers/data/answers` made the list.
+
+#![tactic(auto)]
 use host::find;
 use std::alloc::Global;
 use std::{fs, io};

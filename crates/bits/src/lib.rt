@@ -1,4 +1,7 @@
 //! The set digits of a number, one after another.
+
+#![tactic(auto)]
+
 ghost use Rattle.std.specs.Prelude.{◌≡◌, ◌<◌, MatchOption};
 ghost use Rattle.bits.specs.Digits.{Taken};
 

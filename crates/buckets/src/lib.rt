@@ -1,4 +1,6 @@
 //! The ids of a book in 64 buckets.
 
+#![tactic(auto)]
+
 pub mod buckets;
 pub mod row;

@@ -1,5 +1,7 @@
 //! The rolling hash.
 
+#![tactic(auto)]
+
 ghost use Rattle.std.specs.Prelude.{◌≡◌, ◌+◌, ◌*◌, ◌%◌, ◌^◌, true};
 ghost use Rattle.hash.specs.Hash.{hash_of, leading, moved, Rolling};
 

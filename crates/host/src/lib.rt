@@ -1,5 +1,7 @@
 //! The find that a host program calls.
 
+#![tactic(auto)]
+
 ghost use Rattle.std.specs.Prelude.{◌≡◌, length};
 ghost use Rattle.host.specs.Answer.{called, answer, SmallAnswer, Replies};
 

@@ -1,5 +1,7 @@
 //! The intake: it scans texts with a searcher, tallies the hits of each pattern and counts the texts.
 
+#![tactic(auto)]
+
 pub mod calls;
 pub mod intake;
 mod table;

@@ -1,5 +1,7 @@
 //! An intake over the plain searcher at the edges of what it refuses: prints what each scan answers, and what its list, the
 //! count and the tallies are then.
+
+#![tactic(auto)]
 use finder::plain::Plain;
 use intake::intake::Intake;
 use pattern::patterns::Patterns;

@@ -1,4 +1,6 @@
 //! An intake that accepts as many texts as it may, and refuses one more.
+
+#![tactic(auto)]
 use finder::plain::Plain;
 use intake::intake::Intake;
 use pattern::patterns::Patterns;

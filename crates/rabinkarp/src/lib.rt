@@ -1,3 +1,5 @@
 //! The rolling-hash searcher.
 
+#![tactic(auto)]
+
 pub mod rabinkarp;

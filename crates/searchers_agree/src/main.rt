@@ -1,5 +1,7 @@
 //! Runs the rolling-hash searcher beside the plain one: on small worked cases, and on many books and texts.
 
+#![tactic(auto)]
+
 use anyhow::anyhow;
 use finder::finder::Finder;
 use finder::plain::Plain;

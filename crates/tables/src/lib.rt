@@ -1,5 +1,7 @@
 //! The buckets and the masks of a closed book.
 
+#![tactic(auto)]
+
 pub mod bucket;
 pub mod mask;
 pub mod theorems;

@@ -1,5 +1,7 @@
 //! The mask searcher, over every kind of lanes.
 
+#![tactic(auto)]
+
 pub mod slim;
 pub mod tables;
 pub mod teddy;

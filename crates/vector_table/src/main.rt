@@ -1,4 +1,6 @@
 //! Runs every operation on every kind of vector, and compares the answers with one another.
+
+#![tactic(auto)]
 use halves::array::ArrayHalf;
 use halves::word::WordHalf;
 use std::io;
