@@ -16,7 +16,7 @@ pub struct Double<H> {
 }
 
 fn splat<H: Half>(byte: u8) -> Double<H>
-    ensures { lanes result.low ++ lanes result.high ≡ splatted 32 byte }
+    ensures { H.lanes result.low ++ H.lanes result.high ≡ splatted 32 byte }
 {
     let half = H::splat(byte);
     Double {
@@ -26,7 +26,7 @@ fn splat<H: Half>(byte: u8) -> Double<H>
 }
 
 fn load<H: Half>(s: &[u8], at: usize) -> Double<H>
-    ensures { lanes result.low ++ lanes result.high ≡ loaded 32 s.now at }
+    ensures { H.lanes result.low ++ H.lanes result.high ≡ loaded 32 s.now at }
 {
     Double {
         low: H::load(s, at),
@@ -35,13 +35,13 @@ fn load<H: Half>(s: &[u8], at: usize) -> Double<H>
 }
 
 fn is_zero<H: Half>(a: Double<H>) -> bool
-    ensures { result ≡ all_zero (lanes a.low ++ lanes a.high) }
+    ensures { result ≡ all_zero (H.lanes a.low ++ H.lanes a.high) }
 {
     a.low.is_zero() && a.high.is_zero()
 }
 
 fn cmpeq<H: Half>(a: Double<H>, b: Double<H>) -> Double<H>
-    ensures { lanes result.low ++ lanes result.high ≡ compared 32 (lanes a.low ++ lanes a.high) (lanes b.low ++ lanes b.high) }
+    ensures { H.lanes result.low ++ H.lanes result.high ≡ compared 32 (H.lanes a.low ++ H.lanes a.high) (H.lanes b.low ++ H.lanes b.high) }
 {
     Double {
         low: a.low.cmpeq(b.low),
@@ -50,7 +50,7 @@ fn cmpeq<H: Half>(a: Double<H>, b: Double<H>) -> Double<H>
 }
 
 fn and<H: Half>(a: Double<H>, b: Double<H>) -> Double<H>
-    ensures { lanes result.low ++ lanes result.high ≡ anded 32 (lanes a.low ++ lanes a.high) (lanes b.low ++ lanes b.high) }
+    ensures { H.lanes result.low ++ H.lanes result.high ≡ anded 32 (H.lanes a.low ++ H.lanes a.high) (H.lanes b.low ++ H.lanes b.high) }
 {
     Double {
         low: a.low.and(b.low),
@@ -59,7 +59,7 @@ fn and<H: Half>(a: Double<H>, b: Double<H>) -> Double<H>
 }
 
 fn or<H: Half>(a: Double<H>, b: Double<H>) -> Double<H>
-    ensures { lanes result.low ++ lanes result.high ≡ ored 32 (lanes a.low ++ lanes a.high) (lanes b.low ++ lanes b.high) }
+    ensures { H.lanes result.low ++ H.lanes result.high ≡ ored 32 (H.lanes a.low ++ H.lanes a.high) (H.lanes b.low ++ H.lanes b.high) }
 {
     Double {
         low: a.low.or(b.low),
@@ -68,7 +68,7 @@ fn or<H: Half>(a: Double<H>, b: Double<H>) -> Double<H>
 }
 
 fn shift_right_four<H: Half>(a: Double<H>) -> Double<H>
-    ensures { lanes result.low ++ lanes result.high ≡ shifted_right_4 32 (lanes a.low ++ lanes a.high) }
+    ensures { H.lanes result.low ++ H.lanes result.high ≡ shifted_right_4 32 (H.lanes a.low ++ H.lanes a.high) }
 {
     Double {
         low: a.low.shift_right_four(),
@@ -79,7 +79,7 @@ fn shift_right_four<H: Half>(a: Double<H>) -> Double<H>
 // The low half takes lanes in from the other vector, the high half from the low one.
 fn shift_in<H: Half>(a: Double<H>, b: Double<H>, count: usize) -> Double<H>
     requires { count ≤ 16 }
-    ensures { lanes result.low ++ lanes result.high ≡ shifted_in count 32 (lanes a.low ++ lanes a.high) (lanes b.low ++ lanes b.high) }
+    ensures { H.lanes result.low ++ H.lanes result.high ≡ shifted_in count 32 (H.lanes a.low ++ H.lanes a.high) (H.lanes b.low ++ H.lanes b.high) }
 {
     Double {
         low: a.low.shift_in(b.high, count),
@@ -88,7 +88,7 @@ fn shift_in<H: Half>(a: Double<H>, b: Double<H>, count: usize) -> Double<H>
 }
 
 fn shuffle_bytes<H: Half>(a: Double<H>, indices: Double<H>) -> Double<H>
-    ensures { lanes result.low ++ lanes result.high ≡ shuffled 32 (lanes a.low ++ lanes a.high) (lanes indices.low ++ lanes indices.high) }
+    ensures { H.lanes result.low ++ H.lanes result.high ≡ shuffled 32 (H.lanes a.low ++ H.lanes a.high) (H.lanes indices.low ++ H.lanes indices.high) }
 {
     Double {
         low: a.low.shuffle_bytes(indices.low),
@@ -97,7 +97,7 @@ fn shuffle_bytes<H: Half>(a: Double<H>, indices: Double<H>) -> Double<H>
 }
 
 fn lane_64<H: Half>(a: Double<H>, k: usize) -> u64
-    ensures { result ≡ lane64 (lanes a.low ++ lanes a.high) k }
+    ensures { result ≡ lane64 (H.lanes a.low ++ H.lanes a.high) k }
 {
     if k < 2 {
         a.low.lane_64(k)

@@ -3,8 +3,8 @@ use native.Mathlib.Nat.{mul-mod_left}
 use Rattle.std.proofs.lemmas.Nat.{pow-add}
 use Rattle.hash.proofs.hash_2pow.Goals as goal
 
-pub returns-in-default : goal.returns-in-default
-returns-in-default c =
+pub returns-in_default : goal.returns-in_default
+returns-in_default c =
     let k = c.args.len - 65 in
     let e : c.args.len - 1 ≡ k + 64 = omega arith in
     sym (ap (λ n. 2 ^ n % 2 ^ 64) e ∙ (ap (λ n. n % 2 ^ 64) (pow-add 2 k 64) ∙ mul-mod_left (2 ^ k) (2 ^ 64)))

@@ -16,8 +16,8 @@ loop-line-preserved c =
     let ls = c.args.lines.now in
     let l = get_or ls i no_line in
     let old = string_bytes c.args.out.now in
-    c.in-ok-push-str.ensures.bytes
-    ∙ ap (λ xs. string_bytes c.loop-line.out ++ xs) (c.as-str.ensures.value ∙ c.in-ok-text.ensures.ok)
+    c.in_ok-push_str.ensures.bytes
+    ∙ ap (λ xs. string_bytes c.loop-line.out ++ xs) (c.as_str.ensures.value ∙ c.in_ok-text.ensures.ok)
     ∙ ap (λ xs. xs ++ (shown_line l ++ newline)) c.loop-line.invariant
     ∙ append_assoc old (printed_lines (take i ls)) (shown_line l ++ newline)
     ∙ ap (λ xs. old ++ xs) (sym (lines-push (take i ls) l) ∙ ap printed_lines (sym (take_more ls i no_line c.loop-line-test.true)))

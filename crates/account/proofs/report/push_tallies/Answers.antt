@@ -11,8 +11,8 @@ loop-id-preserved c =
     let n = get_or ns i 0 in
     let old = string_bytes c.args.out.now in
     let long : i ≡ 0 + length (take i ns) = omega (arith, length-take-le i ns (omega (arith, c.loop-id-test.true))) in
-    c.in-ok-push-str.ensures.bytes
-    ∙ ap (λ xs. string_bytes c.loop-id.out ++ xs) (c.as-str.ensures.value ∙ c.in-ok-text.ensures.ok)
+    c.in_ok-push_str.ensures.bytes
+    ∙ ap (λ xs. string_bytes c.loop-id.out ++ xs) (c.as_str.ensures.value ∙ c.in_ok-text.ensures.ok)
     ∙ ap (λ xs. xs ++ tally_line i n) c.loop-id.invariant
     ∙ append_assoc old (printed_tallies 0 (take i ns)) (tally_line i n)
     ∙ ap (λ xs. old ++ xs) (ap (λ k. printed_tallies 0 (take i ns) ++ tally_line k n) long ∙ sym (tallies-push 0 (take i ns) n) ∙ ap (printed_tallies 0) (sym (take_more ns i 0 c.loop-id-test.true)))

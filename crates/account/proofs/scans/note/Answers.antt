@@ -11,9 +11,9 @@ loop-hit-preserved c =
     let old = vec_items c.args.lines.now in
     let f = line c.args.text in
     let m = get_or hits i no_match in (
-      c.push-reserved.ensures.items ∙ ap (λ xs. xs ++ f m ∷ []) c.loop-hit.invariant.0 ∙ append_assoc old (map f (take i hits)) (f m ∷ []) ∙ ap (λ xs. old ++ xs) (sym (map_push f (take i hits) m)) ∙ ap (λ xs. old ++ map f xs) (sym (take_more hits i no_match c.loop-hit-test.true)),
-      omega (arith, c.push-reserved.ensures.len, c.loop-hit.invariant.1),
-      omega (arith, c.push-reserved.ensures.capacity, c.loop-hit.invariant.2),
+      c.push_reserved.ensures.items ∙ ap (λ xs. xs ++ f m ∷ []) c.loop-hit.invariant.0 ∙ append_assoc old (map f (take i hits)) (f m ∷ []) ∙ ap (λ xs. old ++ xs) (sym (map_push f (take i hits) m)) ∙ ap (λ xs. old ++ map f xs) (sym (take_more hits i no_match c.loop-hit-test.true)),
+      omega (arith, c.push_reserved.ensures.len, c.loop-hit.invariant.1),
+      omega (arith, c.push_reserved.ensures.capacity, c.loop-hit.invariant.2),
     )
 
 pub returns : goal.returns

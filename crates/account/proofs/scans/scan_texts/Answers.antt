@@ -24,10 +24,10 @@ book_is : (g : given.Over) (c : After-next g) → g.F.Finder.book c.new-intake.r
 book_is g c = ap g.F.Finder.book c.new-intake.ensures.finder
 
 stepped : (g : given.Over) (c : In-Some g) → step c.args.texts.job.now c.loop-hits.rest.at ≡ good (entry c.in-Some.placed.«record») c.next.new.self.at
-stepped g c = told_some c.args.texts.job.now _ c.loop-hits.rest.at c.next.new.self.at c.loop-hits.invariant.5 c.in-ok-placed.field-0 c.in-Some.placed c.in-ok-placed.ensures.step c.in-Some.is
+stepped g c = told_some c.args.texts.job.now _ c.loop-hits.rest.at c.next.new.self.at c.loop-hits.invariant.5 c.in_ok-placed.field-0 c.in-Some.placed c.in_ok-placed.ensures.step c.in-Some.is
 
 there : (g : given.Over) (c : In-Some g) → c.in-Some.placed.place ≡ c.loop-hits.rest.at
-there g c = placed_some c.loop-hits.rest.at c.in-ok-placed.field-0 c.in-Some.placed c.in-ok-placed.ensures.place c.in-Some.is
+there g c = placed_some c.loop-hits.rest.at c.in_ok-placed.field-0 c.in-Some.placed c.in_ok-placed.ensures.place c.in-Some.is
 
 -- the fault that ends the job, with the lines so far
 ends_with : (g : given.Over) (c : After-next g) (f : Fault) → let b = g.F.Finder.book c.new-intake.result.finder in let first = reading c.args.texts.job.now c.args.texts.at in (c.loop-hits.invariant.0 ≡ accepted b 0 first.items) × (ended b 0 first.items first.stop ≡ Some f) → TextsServed (g.F.Finder.book c.args.finder) first (vec_items c.args.lines.now) (vec_items c.loop-hits.lines) (Err f)
@@ -37,27 +37,27 @@ ends_with g c f h =
     subst (λ x. TextsServed x first (vec_items c.args.lines.now) (vec_items c.loop-hits.lines) (Err f)) (book_is g c)
     (inr (h.1, c.loop-hits.invariant.2 ∙ ap (λ ts. vec_items c.args.lines.now ++ lines_of b 0 ts) h.0))
 
-pub returns-in-err-placed : goal.returns-in-err-placed
-returns-in-err-placed g c =
-    let p = err_from_is_err_and c.from-residual-in-err-placed.result c.from-residual-in-err-placed.ensures.1 in
+pub returns-in_err-placed : goal.returns-in_err-placed
+returns-in_err-placed g c =
+    let p = err_from_is_err_and c.from_residual-in_err-placed.result c.from_residual-in_err-placed.ensures.1 in
     let i = c.loop-hits.invariant in
     let at = c.loop-hits.rest.at in
     let job = c.args.texts.job.now in
     let b = g.F.Finder.book c.new-intake.result.finder in
-    let f = c.in-err-placed.field-0.0 in
-    let h = c.in-err-placed.ensures in
+    let f = c.in_err-placed.field-0.0 in
+    let h = c.in_err-placed.ensures in
     let e = bad_refused job b at i.0 _ _ i.3 i.4 f.refusal (told_bad job _ at c.next.new.self.at i.5 f h.step) in
-    rw (p.1, p.2) (ends_with g (goal.at.returns-in-err-placed g c).After-next f (e.0, e.1 ∙ ap (λ n. Some (refused n f.refusal)) (sym h.place)))
+    rw (p.1, p.2) (ends_with g (goal.at.returns-in_err-placed g c).After-next f (e.0, e.1 ∙ ap (λ n. Some (refused n f.refusal)) (sym h.place)))
 
-pub returns-in-default-record : goal.returns-in-default-record
-returns-in-default-record g c =
+pub returns-in_default-record : goal.returns-in_default-record
+returns-in_default-record g c =
     let i = c.loop-hits.invariant in
     let at = c.loop-hits.rest.at in
     let job = c.args.texts.job.now in
     let b = g.F.Finder.book c.new-intake.result.finder in
-    let a = (goal.at.returns-in-default-record g c).In-Some in
-    let e = other_refused job b at i.0 _ _ i.3 i.4 (entry c.in-Some.placed.«record») c.next.new.self.at (stepped g a) (no_text c.in-Some.placed.«record» c.in-default-record.not-Text) in
-    ends_with g (goal.at.returns-in-default-record g c).After-next (refused c.in-Some.placed.place AfterText) (e.0, e.1 ∙ ap (λ n. Some (refused n AfterText)) (sym (there g a)))
+    let a = (goal.at.returns-in_default-record g c).In-Some in
+    let e = other_refused job b at i.0 _ _ i.3 i.4 (entry c.in-Some.placed.«record») c.next.new.self.at (stepped g a) (no_text c.in-Some.placed.«record» c.in_default-record.not-Text) in
+    ends_with g (goal.at.returns-in_default-record g c).After-next (refused c.in-Some.placed.place AfterText) (e.0, e.1 ∙ ap (λ n. Some (refused n AfterText)) (sym (there g a)))
 
 -- the text that a turn scans
 texted : (g : given.Over) (c : In-Text g) → step c.args.texts.job.now c.loop-hits.rest.at ≡ good (text c.in-Text.text.now) c.next.new.self.at
@@ -76,11 +76,11 @@ loop-hits-preserved g c =
     let b = g.F.Finder.book c.new-intake.result.finder in
     let t = c.in-Text.text.now in
     let m = model g.F.Finder.book c.loop-hits.intake in
-    let noted = c.in-ok-scan-text.ensures in
+    let noted = c.in_ok-scan_text.ensures in
     let ok : is_ok (scanned b (length i.0) t) ≡ true = sym (λ k. is_ok (scanned (i.1.book k) (i.1.count k) t)) ∙ noted.cases.0 in
     let e = text_scanned job b at i.0 _ _ i.3 i.4 t c.next.new.self.at (texted g (goal.at.loop-hits-preserved g c).In-Text) ok in (
       i.0 ++ t ∷ [],
-      keeps_more (record { book = b; texts = i.0 }) m (model g.F.Finder.book c.scan-text.new.intake) t noted.cases.1 i.1,
+      keeps_more (record { book = b; texts = i.0 }) m (model g.F.Finder.book c.scan_text.new.intake) t noted.cases.1 i.1,
       noted.cases.2 ∙ ap (λ xs. xs ++ map (line m.accepted) (listing m.book t)) i.2 ∙ append_assoc (vec_items c.args.lines.now) (lines_of b 0 i.0) (map (line m.accepted) (listing m.book t)) ∙ ap (λ xs. vec_items c.args.lines.now ++ xs) ((λ k. lines_of b 0 i.0 ++ map (line ((i.1.count ∙ sym (zero-add (length i.0))) k)) (listing (i.1.book k) t)) ∙ sym (lines_more b 0 i.0 t)),
       e.0,
       e.1,
@@ -88,16 +88,16 @@ loop-hits-preserved g c =
       i.6,
     )
 
-pub returns-in-err-scan-text : goal.returns-in-err-scan-text
-returns-in-err-scan-text g c =
-    let p = err_from_is_err_and c.from-residual-in-err-scan-text.result c.from-residual-in-err-scan-text.ensures.1 in
+pub returns-in_err-scan_text : goal.returns-in_err-scan_text
+returns-in_err-scan_text g c =
+    let p = err_from_is_err_and c.from_residual-in_err-scan_text.result c.from_residual-in_err-scan_text.ensures.1 in
     let i = c.loop-hits.invariant in
     let at = c.loop-hits.rest.at in
     let job = c.args.texts.job.now in
     let b = g.F.Finder.book c.new-intake.result.finder in
     let t = c.in-Text.text.now in
-    let f = c.in-err-scan-text.field-0.0 in
-    let noted = c.in-err-scan-text.ensures in
+    let f = c.in_err-scan_text.field-0.0 in
+    let noted = c.in_err-scan_text.ensures in
     let first = reading job c.args.texts.at in
     let old = vec_items c.args.lines.now in
     rw (p.1, p.2)
@@ -105,8 +105,8 @@ returns-in-err-scan-text g c =
     (elim noted.cases.2 [
       | inl memory ↦ inl memory
       | inr (k, is, at_place) ↦
-          let e = text_refused job b at i.0 _ _ i.3 i.4 t c.next.new.self.at k (texted g (goal.at.returns-in-err-scan-text g c).In-Text) ((λ j. scanned (sym i.1.book j) (sym i.1.count j) t) ∙ is) in
-          ends_with g (goal.at.returns-in-err-scan-text g c).After-next f (e.0, e.1 ∙ ap Some ((λ j. refused (sym (there g (goal.at.returns-in-err-scan-text g c).In-Some) j) k) ∙ sym at_place))
+          let e = text_refused job b at i.0 _ _ i.3 i.4 t c.next.new.self.at k (texted g (goal.at.returns-in_err-scan_text g c).In-Text) ((λ j. scanned (sym i.1.book j) (sym i.1.count j) t) ∙ is) in
+          ends_with g (goal.at.returns-in_err-scan_text g c).After-next f (e.0, e.1 ∙ ap Some ((λ j. refused (sym (there g (goal.at.returns-in_err-scan_text g c).In-Some) j) k) ∙ sym at_place))
     ]))
 
 pub returns : goal.returns
@@ -116,7 +116,7 @@ returns g c =
     let job = c.args.texts.job.now in
     let first = reading job c.args.texts.at in
     let b = g.F.Finder.book c.new-intake.result.finder in
-    let e = all_scanned job b at i.0 _ _ i.3 i.4 (told_none job _ at c.next.new.self.at i.5 c.in-ok-placed.field-0 c.in-ok-placed.ensures.step c.in-default.is) in
+    let e = all_scanned job b at i.0 _ _ i.3 i.4 (told_none job _ at c.next.new.self.at i.5 c.in_ok-placed.field-0 c.in_ok-placed.ensures.step c.in_default.is) in
     subst (λ x. TextsServed x first (vec_items c.args.lines.now) (vec_items c.loop-hits.lines) (Ok (model g.F.Finder.book c.loop-hits.intake))) (book_is g (goal.at.returns g c).After-next) (
       e.1,
       subst (λ ts. Keeps (record { book = b; texts = ts }) (model g.F.Finder.book c.loop-hits.intake)) e.0 i.1,

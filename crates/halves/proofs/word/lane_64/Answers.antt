@@ -14,5 +14,5 @@ returns-in-1 c =
     let e : 8 * c.args.k ≡ 8 = omega arith in
     rw e (sym (words_high c.args.a.low c.args.a.high (omega arith)))
 
-pub returns-in-default : goal.returns-in-default
-returns-in-default c = sym (number_past 8 (word_lanes c.args.a.low c.args.a.high) (8 * c.args.k) (omega (arith, words_long c.args.a.low c.args.a.high)))
+pub returns-in_default : goal.returns-in_default
+returns-in_default c = sym (number_past 8 (word_lanes c.args.a.low c.args.a.high) (8 * c.args.k) (omega (arith, words_long c.args.a.low c.args.a.high)))

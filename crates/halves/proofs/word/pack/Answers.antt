@@ -7,4 +7,4 @@ pub returns : goal.returns
 returns c =
     let long : length c.args.lanes ≡ 16 = search rules in
     let fit : (i : ℕ) → lane c.args.lanes i < 256 = search rules in
-    rw (c.lane-64.ensures, c.lane-64-2.ensures) (words_pack c.args.lanes long fit)
+    rw (c.lane_64.ensures, c.lane_64-2.ensures) (words_pack c.args.lanes long fit)

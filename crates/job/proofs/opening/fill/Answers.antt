@@ -15,18 +15,18 @@ use Rattle.job.proofs.opening.fill.Goals.{In-Some}
 -- the record that a turn reads, and its place
 stepped : (c : In-Some) → step c.args.job.now c.loop-patterns.reader.at ≡ good (entry c.in-Some.placed.«record») c.next.new.self.at
 stepped c =
-    told_some c.args.job.now _ c.loop-patterns.reader.at c.next.new.self.at c.loop-patterns.invariant.0 c.in-ok-placed.field-0 c.in-Some.placed c.in-ok-placed.ensures.step c.in-Some.is
+    told_some c.args.job.now _ c.loop-patterns.reader.at c.next.new.self.at c.loop-patterns.invariant.0 c.in_ok-placed.field-0 c.in-Some.placed c.in_ok-placed.ensures.step c.in-Some.is
 
 there : (c : In-Some) → c.in-Some.placed.place ≡ c.loop-patterns.reader.at
-there c = placed_some c.loop-patterns.reader.at c.in-ok-placed.field-0 c.in-Some.placed c.in-ok-placed.ensures.place c.in-Some.is
+there c = placed_some c.loop-patterns.reader.at c.in_ok-placed.field-0 c.in-Some.placed c.in_ok-placed.ensures.place c.in-Some.is
 
-pub returns-in-err-placed : goal.returns-in-err-placed
-returns-in-err-placed c =
-    let p = err_from_is_err_and c.from-residual.result c.from-residual.ensures.1 in
+pub returns-in_err-placed : goal.returns-in_err-placed
+returns-in_err-placed c =
+    let p = err_from_is_err_and c.from_residual.result c.from_residual.ensures.1 in
     let i = c.loop-patterns.invariant in
     let at = c.loop-patterns.reader.at in
-    let h = c.in-err-placed.ensures in
-    let f = c.in-err-placed.field-0.0 in
+    let h = c.in_err-placed.ensures in
+    let f = c.in_err-placed.field-0.0 in
     rw (p.1, p.2)
     (inr (fill_bad c.args.job.now (open_of c.loop-patterns.patterns) at i.2 i.3 f.refusal i.1 (told_bad c.args.job.now _ at c.next.new.self.at i.0 f h.step) ∙ ap (λ n. Err (refused n f.refusal)) (sym h.place)))
 
@@ -48,24 +48,24 @@ loop-patterns-preserved c =
     let b = open_of c.loop-patterns.patterns in
     let job = c.args.job.now in
     let e = entry c.in-Some.placed.«record» in
-    let took = ap (λ n. takes b n e) (sym (there a)) ∙ c.in-ok-take.ensures in
-    let again = fill_again job b at i.2 i.3 (open_of c.take.new.patterns) e c.next.new.self.at (stepped a) (no_text c.in-Some.placed.«record» c.in-default-record.not-Text) took in
-    (c.in-ok-placed.ensures.job ∙ i.0, (step_next job at c.next.new.self.at e (stepped a)).1, again.0, again.1)
+    let took = ap (λ n. takes b n e) (sym (there a)) ∙ c.in_ok-take.ensures in
+    let again = fill_again job b at i.2 i.3 (open_of c.take.new.patterns) e c.next.new.self.at (stepped a) (no_text c.in-Some.placed.«record» c.in_default-record.not-Text) took in
+    (c.in_ok-placed.ensures.job ∙ i.0, (step_next job at c.next.new.self.at e (stepped a)).1, again.0, again.1)
 
-pub returns-in-err-take : goal.returns-in-err-take
-returns-in-err-take c =
-    let p = err_from_is_err_and c.from-residual-in-err-take.result c.from-residual-in-err-take.ensures.1 in
+pub returns-in_err-take : goal.returns-in_err-take
+returns-in_err-take c =
+    let p = err_from_is_err_and c.from_residual-in_err-take.result c.from_residual-in_err-take.ensures.1 in
     let i = c.loop-patterns.invariant in
     let at = c.loop-patterns.reader.at in
-    let a = (goal.at.returns-in-err-take c).In-Some in
+    let a = (goal.at.returns-in_err-take c).In-Some in
     let b = open_of c.loop-patterns.patterns in
     let e = entry c.in-Some.placed.«record» in
-    let f = c.in-err-take.field-0.0 in
+    let f = c.in_err-take.field-0.0 in
     rw (p.1, p.2)
-    (fill_fault c.args.job.now b at i.2 i.3 e c.next.new.self.at f (stepped a) (no_text c.in-Some.placed.«record» c.in-default-record.not-Text) (subst (λ n. Refuses (takes b n e) f) (there a) c.in-err-take.ensures))
+    (fill_fault c.args.job.now b at i.2 i.3 e c.next.new.self.at f (stepped a) (no_text c.in-Some.placed.«record» c.in_default-record.not-Text) (subst (λ n. Refuses (takes b n e) f) (there a) c.in_err-take.ensures))
 
 pub returns : goal.returns
 returns c =
     let i = c.loop-patterns.invariant in
     let at = c.loop-patterns.reader.at in
-    fill_over c.args.job.now (open_of c.loop-patterns.patterns) at i.2 i.3 (told_none c.args.job.now _ at c.next.new.self.at i.0 c.in-ok-placed.field-0 c.in-ok-placed.ensures.step c.in-default.is)
+    fill_over c.args.job.now (open_of c.loop-patterns.patterns) at i.2 i.3 (told_none c.args.job.now _ at c.next.new.self.at i.0 c.in_ok-placed.field-0 c.in_ok-placed.ensures.step c.in_default.is)

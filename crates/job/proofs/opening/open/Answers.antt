@@ -7,13 +7,13 @@ use Rattle.pattern.proofs.Shortest.{shortest_pos}
 use Rattle.job.proofs.Closings.{closing_fault}
 use Rattle.job.proofs.opening.open.Goals as goal
 
-pub returns-in-err-check-at : goal.returns-in-err-check-at
-returns-in-err-check-at c =
-    let p = err_from_is_err_and c.from-residual-in-err-check-at.result c.from-residual-in-err-check-at.ensures.1 in
-    let filled = c.in-ok-filled.filled in
+pub returns-in_err-check_at : goal.returns-in_err-check_at
+returns-in_err-check_at c =
+    let p = err_from_is_err_and c.from_residual-in_err-check_at.result c.from_residual-in_err-check_at.ensures.1 in
+    let filled = c.in_ok-filled.filled in
     let b = open_of filled.patterns in
-    let e = c.in-err-check-at.field-0.0 in
-    let masks : c.min.result ≡ min (shortest b) 4 = c.min.ensures ∙ ap (λ n. min n 4) c.minimum-len.ensures in
-    let fault = subst (λ n. MatchOption (checking b n) ⊥ (λ x. e ≡ refused filled.at x)) masks c.in-err-check-at.ensures in
+    let e = c.in_err-check_at.field-0.0 in
+    let masks : c.min.result ≡ min (shortest b) 4 = c.min.ensures ∙ ap (λ n. min n 4) c.minimum_len.ensures in
+    let fault = subst (λ n. MatchOption (checking b n) ⊥ (λ x. e ≡ refused filled.at x)) masks c.in_err-check_at.ensures in
     rw (p.1, p.2)
-    (inr (cond-false (ltb 65536 (length c.args.job.now)) _ _ (le-ltb 65536 (length c.args.job.now) c.if-job-gt-MAX-JOB.false) ∙ c.in-ok-filled.ensures.0 ∙ closing_fault b filled.at e (shortest_pos b filled.patterns.book.some) fault))
+    (inr (cond-false (ltb 65536 (length c.args.job.now)) _ _ (le-ltb 65536 (length c.args.job.now) c.if-job-gt-MAX_JOB.false) ∙ c.in_ok-filled.ensures.0 ∙ closing_fault b filled.at e (shortest_pos b filled.patterns.book.some) fault))

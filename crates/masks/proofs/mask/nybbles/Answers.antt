@@ -8,5 +8,5 @@ returns g c =
     let xs = g.V.Vector.lanes c.args.chunk in
     record {
       low = rw c.splat-lomask.ensures at c.and-hlo.ensures ∙ low_nybbles n xs;
-      high = rw (c.shift-right-four.ensures, c.splat-lomask.ensures) at c.and-hhi.ensures ∙ high_nybbles n xs (g.met.V.Vector.bytes c.args.chunk);
+      high = rw (c.shift_right_four.ensures, c.splat-lomask.ensures) at c.and-hhi.ensures ∙ high_nybbles n xs (g.met.V.Vector.bytes c.args.chunk);
     }

@@ -19,7 +19,7 @@ returns g c b ids key low of le saw =
     let m = c.args.masks.now in
     let chunk = c.load.ensures in
     let see : (j : ℕ) (lo hi : List ℕ) → _ → _ → Sees (Admits b ids key) n text at j (members n lo hi (loaded n text at)) =
-    λ j lo hi. sees n wide b ids key text (λ i. omega (arith, c.type-inv.text i)) at j lo hi in
+    λ j lo hi. sees n wide b ids key text (λ i. omega (arith, c.type_inv.text i)) at j lo hi in
     let s₁ = see 0 (means m.first.lo) (means m.first.hi) of.lo₁ of.hi₁ in
     let s₂ = see 1 (means m.second.lo) (means m.second.hi) of.lo₂ of.hi₂ in
     let s₃ = see 2 (means m.third.lo) (means m.third.hi) of.lo₃ of.hi₃ in

@@ -10,7 +10,7 @@ use Rattle.tables.proofs.bucket.leader_of.Goals as goal
 use Rattle.tables.proofs.bucket.leader_of.Goals.{After-get, After-order-other-items}
 
 fronts : (c : After-order-other-items) → c.min-n.result ≡ front (book_of c.args.book.now)
-fronts c = omega (arith, c.min-n.ensures, c.minimum-len.ensures)
+fronts c = omega (arith, c.min-n.ensures, c.minimum_len.ensures)
 
 -- the pattern that a turn reads
 earlier_is : (c : After-get) → c.get.result.now ≡ pattern (book_of c.args.book.now) (get_or (order_in c.args.book.now) c.loop-i.i 0)
@@ -20,16 +20,16 @@ earlier_is c =
 turn : (c : After-get) → c.loop-i.i < length (order_in c.args.book.now)
 turn c = omega (arith, c.loop-i-test.true, ap length c.order-other-items.ensures.same, length-map c.order-other-items.result.now number)
 
-pub returns-then-same-front : goal.returns-then-same-front
-returns-then-same-front c =
-    let a = (goal.at.returns-then-same-front c).After-get in
-    let r = (goal.at.returns-then-same-front c).After-order-other-items in
+pub returns-then-same_front : goal.returns-then-same_front
+returns-then-same_front c =
+    let a = (goal.at.returns-then-same_front c).After-get in
+    let r = (goal.at.returns-then-same_front c).After-order-other-items in
     let b = book_of c.args.book.now in
     let ids = order_in c.args.book.now in
     let i = c.loop-i.i in
     let p = c.args.pattern.now in
-    let same : Alike (pattern b (get_or ids i 0)) p (front b) = subst (Alike (pattern b (get_or ids i 0)) p) (fronts r) (subst (λ q. Alike q p c.min-n.result) (earlier_is a) c.if-same-front.ensures) in
-    c.as-usize.ensures ∙ (read c.order-other-items.result.now ids i c.order-other-items.ensures.same ∙ sym (c.loop-i.invariant ∙ leader_here b p ids i (turn a) same))
+    let same : Alike (pattern b (get_or ids i 0)) p (front b) = subst (Alike (pattern b (get_or ids i 0)) p) (fronts r) (subst (λ q. Alike q p c.min-n.result) (earlier_is a) c.if-same_front.ensures) in
+    c.as_usize.ensures ∙ (read c.order-other-items.result.now ids i c.order-other-items.ensures.same ∙ sym (c.loop-i.invariant ∙ leader_here b p ids i (turn a) same))
 
 pub loop-i-preserved : goal.loop-i-preserved
 loop-i-preserved c =
@@ -38,7 +38,7 @@ loop-i-preserved c =
     let b = book_of c.args.book.now in
     let p = c.args.pattern.now in
     c.loop-i.invariant ∙ leader_later b p (order_in c.args.book.now) c.loop-i.i (turn a)
-    (λ same. c.if-same-front.ensures (subst (Alike c.get.result.now p) (sym (fronts r)) (subst (λ q. Alike q p (front b)) (sym (earlier_is a)) same)))
+    (λ same. c.if-same_front.ensures (subst (Alike c.get.result.now p) (sym (fronts r)) (subst (λ q. Alike q p (front b)) (sym (earlier_is a)) same)))
 
 pub returns : goal.returns
 returns c =

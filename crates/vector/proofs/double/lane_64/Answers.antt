@@ -6,7 +6,7 @@ pub returns-then-k-lt2 : goal.returns-then-k-lt2
 returns-then-k-lt2 g c =
     let a = g.H.Half.lanes c.args.a.low in
     let within : 8 * c.args.k + 8 ≤ length a = omega (arith, g.met.H.Half.sixteen c.args.a.low) in
-    c.lane-64.ensures ∙ sym (number_low a _ 8 (8 * c.args.k) within)
+    c.lane_64.ensures ∙ sym (number_low a _ 8 (8 * c.args.k) within)
 
 pub returns-else-k-lt2 : goal.returns-else-k-lt2
 returns-else-k-lt2 g c =
@@ -14,4 +14,4 @@ returns-else-k-lt2 g c =
     let b = g.H.Half.lanes c.args.a.high in
     let k = c.args.k in
     let e : 16 + 8 * (k - 2) ≡ 8 * k = omega arith in
-    c.lane-64-else-k-lt2.ensures ∙ rw (← e) (sym (number_high a b (g.met.H.Half.sixteen c.args.a.low) 8 (8 * (k - 2))))
+    c.lane_64-else-k-lt2.ensures ∙ rw (← e) (sym (number_high a b (g.met.H.Half.sixteen c.args.a.low) 8 (8 * (k - 2))))

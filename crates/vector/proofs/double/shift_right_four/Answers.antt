@@ -7,4 +7,4 @@ returns g c =
     let a = g.H.Half.lanes c.args.a.low in
     let b = g.H.Half.lanes c.args.a.high in
     let long = g.met.H.Half.sixteen c.args.a.low in
-    rw (c.shift-right-four.ensures, c.shift-right-four-2.ensures) (lanewise_join a b a b long long (λ x _. x / 16))
+    rw (c.shift_right_four.ensures, c.shift_right_four-2.ensures) (lanewise_join a b a b long long (λ x _. x / 16))

@@ -18,7 +18,7 @@ loop-start-preserved c = λ i s le lt o. elim (cases_lt s c.loop-start.start) [
   | inl l ↦ c.loop-start.invariant i s le l o
   | inr g ↦
       let e : s ≡ c.loop-start.start = omega arith in
-      c.in-default.ensures i (subst (λ b. OccursAt (book_of b) c.args.text.now i c.loop-start.start) (sym c.deref.ensures) (subst (OccursAt (searched c.args.self.now) c.args.text.now i) e o))
+      c.in_default.ensures i (subst (λ b. OccursAt (book_of b) c.args.text.now i c.loop-start.start) (sym c.deref.ensures) (subst (OccursAt (searched c.args.self.now) c.args.text.now i) e o))
 ]
 
 pub returns : goal.returns

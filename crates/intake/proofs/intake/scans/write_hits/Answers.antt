@@ -36,7 +36,7 @@ returns g c =
     let hits = c.loop-m.hits in
     let old = c.args.hits.now in
     let all = listing (g.F.Finder.book c.args.finder.now) c.args.text.now in
-    let end = rest_none _ (g.met.F.Finder.within c.args.finder.now) c.args.text.now c.loop-m.at (sym c.find.ensures ∙ c.in-default.is) in
+    let end = rest_none _ (g.met.F.Finder.within c.args.finder.now) c.args.text.now c.loop-m.at (sym c.find.ensures ∙ c.in_default.is) in
     let front : take n hits ≡ all = sym (append-nil (take n hits)) ∙ ap (λ xs. take n hits ++ xs) (sym end) ∙ c.loop-m.invariant.0 in
     let long : n ≡ length all = omega (arith, c.loop-m.invariant.1, ap length end) in
     sym (take-append-drop n hits) ∙ ap (λ xs. xs ++ drop n hits) front ∙ ap (λ xs. all ++ xs) c.loop-m.invariant.2 ∙ ap (λ k. all ++ drop k old) long

@@ -7,5 +7,5 @@ returns g c =
     let n = g.V.Vector.count in
     let means = g.V.Vector.lanes in
     let nybbles = c.nybbles-hlo.ensures in
-    rw (c.shuffle-bytes-locand.ensures, c.shuffle-bytes-hicand.ensures, nybbles.low, nybbles.high) at c.and.ensures
+    rw (c.shuffle_bytes-locand.ensures, c.shuffle_bytes-hicand.ensures, nybbles.low, nybbles.high) at c.and.ensures
     ∙ looked_up n (means c.args.self.lo) (means c.args.self.hi) (means c.args.chunk) (g.met.V.Vector.bytes c.args.chunk)

@@ -3,13 +3,13 @@ use Rattle.rules.specs.Book.{size}
 use Rattle.pattern.specs.Contents.{contents, longest}
 use Rattle.pattern.proofs.Lookups.{length-longest, count_is, id_at, size_at}
 use Rattle.pattern.proofs.table.Table.place.Goals as goal
-use Rattle.pattern.proofs.table.Table.place.Goals.{After-as-usize, After-len}
+use Rattle.pattern.proofs.table.Table.place.Goals.{After-as_usize, After-len}
 
 -- the id that a turn reads
-read : (c : goal.After-as-usize) → get_or (longest c.args.self.now) c.loop-i.i 0 ≡ c.as-usize.result
-read c = id_at c.args.self.now c.loop-i.i ∙ simp (c.as-usize.ensures, c.deref-id-items.ensures.value)
+read : (c : goal.After-as_usize) → get_or (longest c.args.self.now) c.loop-i.i 0 ≡ c.as_usize.result
+read c = id_at c.args.self.now c.loop-i.i ∙ simp (c.as_usize.ensures, c.deref-id-items.ensures.value)
 
-below : (c : goal.After-as-usize) → c.as-usize.result < vec_len c.args.self.now.by_id
+below : (c : goal.After-as_usize) → c.as_usize.result < vec_len c.args.self.now.by_id
 below c =
     let t = c.args.self.now in
     omega (arith, read c, c.requires.ordered.known c.loop-i.i (omega (arith, length-longest t, c.deref-id-items.ensures.len)), count_is t)
@@ -18,8 +18,8 @@ below c =
 long : (c : goal.After-len) → size (contents c.args.self.now) (get_or (longest c.args.self.now) c.loop-i.i 0) ≡ c.len.result
 long c =
     let t = c.args.self.now in
-    let a = (goal.at.After-len c).After-as-usize in
-    ap (size (contents t)) (read a) ∙ (size_at t c.as-usize.result c.index.result.now (below a) c.index.ensures ∙ sym c.len.ensures)
+    let a = (goal.at.After-len c).After-as_usize in
+    ap (size (contents t)) (read a) ∙ (size_at t c.as_usize.result c.index.result.now (below a) c.index.ensures ∙ sym c.len.ensures)
 
 pub index-requires : goal.index-requires
 index-requires c = below c

@@ -43,10 +43,10 @@ loop-start-preserved c =
     let x = c.args.self.now in
     let t = c.args.text.now in
     let s = c.loop-start.start in (
-      c.update-hash-hash.ensures ∙ next x t s c.loop-start.hash c.loop-start-test.true c.loop-start.invariant.0,
+      c.update_hash-hash.ensures ∙ next x t s c.loop-start.hash c.loop-start-test.true c.loop-start.invariant.0,
       λ i k le lt o. elim (cases_lt k s) [
         | inl l ↦ c.loop-start.invariant.1 i k le l o
-        | inr g ↦ c.in-default.ensures i (subst (OccursAt (searched x) t i) (let e : k ≡ s = omega arith in e) o)
+        | inr g ↦ c.in_default.ensures i (subst (OccursAt (searched x) t i) (let e : k ≡ s = omega arith in e) o)
       ],
     )
 
@@ -57,6 +57,6 @@ returns c =
     let s = length t - x.tables.hash_len in
     let room : c.args.at ≤ s = omega (arith, c.if-at-text.false, c.if-text-at.false) in
     let e : c.loop-start.start ≡ s = omega (arith, c.loop-start-test.false, c.loop-start.auto.start-end room) in
-    settled (searched x) t c.args.at s c.find-here-2.result room c.find-here-2.ensures
+    settled (searched x) t c.args.at s c.find_here-2.result room c.find_here-2.ensures
     (λ i k le lt o. c.loop-start.invariant.1 i k le (omega arith) o)
     (λ _ i k g o. omega (arith, fits x t i k o))

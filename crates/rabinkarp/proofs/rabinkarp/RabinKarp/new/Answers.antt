@@ -7,17 +7,17 @@ use Rattle.buckets.proofs.Members.{bucket_same}
 use Rattle.rabinkarp.specs.Prefixes.{prefix_hash, bucket_of}
 use Rattle.rabinkarp.proofs.rabinkarp.RabinKarp.new.Goals as goal
 
-pub invariant-of-result : goal.invariant-of-result
-invariant-of-result c =
+pub invariant_of-result : goal.invariant_of-result
+invariant_of-result c =
     let b : Book = rc_value c.args.book in
     let hs = c.hashes-hashes.result in
     let key : ℕ → ℕ = λ i. get_or hs i 0 % 64 in
     let hashed : (i : ℕ) → i < count_of (book_of b) → get_or hs i 0 ≡ prefix_hash (book_of b) i =
     subst (λ (q : Book). (i : ℕ) → i < count_of (book_of q) → get_or hs i 0 ≡ prefix_hash (book_of q) i) c.deref-2.ensures c.hashes-hashes.ensures in
     let held = subst (λ (q : Book). Holds c.new-buckets.result key (order_in q)) c.deref-3.ensures c.new-buckets.ensures in (
-      c.minimum-len-hash-len.ensures ∙ ap (λ (q : Book). shortest (book_of q)) c.deref.ensures,
+      c.minimum_len-hash_len.ensures ∙ ap (λ (q : Book). shortest (book_of q)) c.deref.ensures,
       (
-        c.hash-2pow-hash-2pow.ensures,
+        c.hash_2pow-hash_2pow.ensures,
         (
           hashed,
           (

@@ -11,21 +11,21 @@ use Rattle.vector.specs.Rows.{row_is}
 use Rattle.tables.specs.Masks.{byte_of, marks}
 use Rattle.tables.proofs.Marking.{marked_more}
 use Rattle.tables.proofs.mask.MaskTable.marked.Goals as goal
-use Rattle.tables.proofs.mask.MaskTable.marked.Goals.{After-as-usize}
+use Rattle.tables.proofs.mask.MaskTable.marked.Goals.{After-as_usize}
 
-known : (c : After-as-usize) → c.as-usize.result < 1024
+known : (c : After-as_usize) → c.as_usize.result < 1024
 known c =
     let xs = c.order-id-items.result.now in
     let ids = order_in c.args.book.now in
     let is = read xs ids c.loop-i.i c.order-id-items.ensures.same in
     let same = ap (λ q. get_or q c.loop-i.i 0) c.order-id-items.ensures.same in
-    omega (arith, c.as-usize.ensures, is, same, c.order-id-items.ensures.order.known c.loop-i.i (omega (arith, length-map xs number)), c.args.book.now.few)
+    omega (arith, c.as_usize.ensures, is, same, c.order-id-items.ensures.order.known c.loop-i.i (omega (arith, length-map xs number)), c.args.book.now.few)
 
-pub offset-bounds-buckets-as-usize : goal.offset-bounds-buckets-as-usize
-offset-bounds-buckets-as-usize c = omega (arith, known (goal.at.offset-bounds-buckets-as-usize c).After-as-usize)
+pub offset_bounds-buckets-as_usize : goal.offset_bounds-buckets-as_usize
+offset_bounds-buckets-as_usize c = omega (arith, known (goal.at.offset_bounds-buckets-as_usize c).After-as_usize)
 
-pub bounds-buckets-as-usize : goal.bounds-buckets-as-usize
-bounds-buckets-as-usize c = known (goal.at.bounds-buckets-as-usize c).After-as-usize
+pub bounds-buckets-as_usize : goal.bounds-buckets-as_usize
+bounds-buckets-as_usize c = known (goal.at.bounds-buckets-as_usize c).After-as_usize
 
 pub loop-i-preserved : goal.loop-i-preserved
 loop-i-preserved c =
@@ -37,11 +37,11 @@ loop-i-preserved c =
     let xs = c.order-id-items.result.now in
     let is = read xs ids i c.order-id-items.ensures.same in
     let il : i < length ids = omega (arith, c.loop-i-test.true, ap length c.order-id-items.ensures.same, length-map xs number) in
-    let x = c.byte-at-byte.result in
-    let byte : x ≡ byte_of b j (get_or ids i 0) = c.byte-at-byte.ensures ∙ ap (λ p. get_or p j 0) (c.get.ensures ∙ ap (pattern b) is) in
+    let x = c.byte_at-byte.result in
+    let byte : x ≡ byte_of b j (get_or ids i 0) = c.byte_at-byte.ensures ∙ ap (λ p. get_or p j 0) (c.get.ensures ∙ ap (pattern b) is) in
     let fits : x < 256 = omega arith in
-    let k = get_or c.args.buckets.now c.as-usize.result 0 % 8 in
-    let bit : (1 * 2 ^ k) % 256 ≡ 2 ^ key (get_or ids i 0) = one_shl k 8 (omega arith) ∙ ap (λ m. 2 ^ key m) (c.as-usize.ensures ∙ is) in (
+    let k = get_or c.args.buckets.now c.as_usize.result 0 % 8 in
+    let bit : (1 * 2 ^ k) % 256 ≡ 2 ^ key (get_or ids i 0) = one_shl k 8 (omega arith) ∙ ap (λ m. 2 ^ key m) (c.as_usize.ensures ∙ is) in (
       marked_more key (λ m. byte_of b j m % 16) ids c.loop-i.lo i (x % 16) (bit_or (lane c.loop-i.lo (x % 16)) ((1 * 2 ^ k) % 256)) il c.loop-i.invariant.0
           (ap (λ y. y % 16) byte) (omega arith) (ap (bit_or (lane c.loop-i.lo (x % 16))) bit),
       marked_more key (λ m. byte_of b j m / 16) ids c.loop-i.hi i (x / 16) (bit_or (lane c.loop-i.hi (x / 16)) ((1 * 2 ^ k) % 256)) il c.loop-i.invariant.1

@@ -20,7 +20,7 @@ use Rattle.teddy.proofs.Hits.{Sits, candidate_of, tried, hit_answers, none_answe
 use Rattle.teddy.proofs.Visits.{clean_below}
 use Rattle.teddy.proofs.slim.find.windows.Given as given
 use Rattle.teddy.proofs.slim.find.windows.Goals as goal
-use Rattle.teddy.proofs.slim.find.windows.Goals.{After-window-found, After-bucket-id-items, Joined-not-is-zero, then-not-is-zero+else-loop-k-test, else-not-is-zero}
+use Rattle.teddy.proofs.slim.find.windows.Goals.{After-window-found, After-bucket-id-items, Joined-not-is_zero, then-not-is_zero+else-loop-k-test, else-not-is_zero}
 
 pub search-init : goal.search-init
 search-init g c =
@@ -30,7 +30,7 @@ search-init g c =
     let all = blank (Admits (book_in t) (ids_in t) (key_in t)) n c.args.text.now from in
     let seen = c.blank-seen.ensures in (
       omega arith,
-      omega (arith, c.requires.room, c.lane-count-lanes.ensures, c.requires.masks.some),
+      omega (arith, c.requires.room, c.lane_count-lanes.ensures, c.requires.masks.some),
       (λ x lo hi. absurd (omega arith)),
       (from, omega arith, ((λ _. all 0 _ seen.first), (λ _. all 1 _ seen.second), (λ _. all 2 _ seen.third))),
     )
@@ -44,7 +44,7 @@ loop-i-preserved g c =
     let t = c.args.teddy.now.tables in
     let is = read c.bucket-id-items.result.now (in_bucket (key_in t) (ids_in t) (c.in-Some.digit % 8)) c.loop-i.i c.bucket-id-items.ensures in
     below_more _ _ c.loop-i.invariant
-    (subst (λ k. Stands (pattern (book_in t) k) c.args.text.now (c.search.at - (c.args.masks.now.count - 1) + 8 * c.loop-k.k + c.in-Some.digit / 8) → ⊥) is c.in-default-verify.ensures)
+    (subst (λ k. Stands (pattern (book_in t) k) c.args.text.now (c.search.at - (c.args.masks.now.count - 1) + 8 * c.loop-k.k + c.in-Some.digit / 8) → ⊥) is c.in_default-verify.ensures)
 
 pub loop-digit-preserved : goal.loop-digit-preserved
 loop-digit-preserved g c =
@@ -74,7 +74,7 @@ loop-k-preserved g c y lt set =
     (λ (r : 64 * k ≤ y).
     let e : base + 64 * k + (y - 64 * k) ≡ base + y = omega arith in
     ⊎_elim
-    (λ s. absurd (none_in_zero _ _ c.in-default.ensures.0 s))
+    (λ s. absurd (none_in_zero _ _ c.in_default.ensures.0 s))
     (λ m. subst (λ i. Sits (book_in t) c.args.text.now (key_in t) i → ⊥) e m)
     (c.loop-digit.invariant (y - 64 * k) (set_64 _ k y bytes r lt set)))
     (cases_lt y (64 * k))
@@ -112,13 +112,13 @@ window_below g c d le below x lo hi =
     (cases_lt x (8 * (c.search.at - (m - 1))))
 
 -- all digits of a window were tried in vain
-clean : (g : given.Over) (c : Joined-not-is-zero g) (y : ℕ) → y < 8 * g.V.Vector.count → SetAt (g.V.Vector.lanes c.window-found.result) y
+clean : (g : given.Over) (c : Joined-not-is_zero g) (y : ℕ) → y < 8 * g.V.Vector.count → SetAt (g.V.Vector.lanes c.window-found.result) y
     → Sits (book_in c.args.teddy.now.tables) c.args.text.now (key_in c.args.teddy.now.tables) (8 * (c.search.at - (c.args.masks.now.count - 1)) + y) → ⊥
-clean g c y lt set = elim c.if-not-is-zero.branch [
-  | then-not-is-zero+else-loop-k-test w ↦
-      let whole : y < 64 * w.loop-k.k = ⊎_elim (λ e. omega (arith, c.lane-count-lanes.ensures, w.loop-k-test.false)) (λ e. omega (arith, c.lane-count-lanes.ensures, w.loop-k-test.false)) g.met.V.Vector.wide in
+clean g c y lt set = elim c.if-not-is_zero.branch [
+  | then-not-is_zero+else-loop-k-test w ↦
+      let whole : y < 64 * w.loop-k.k = ⊎_elim (λ e. omega (arith, c.lane_count-lanes.ensures, w.loop-k-test.false)) (λ e. omega (arith, c.lane_count-lanes.ensures, w.loop-k-test.false)) g.met.V.Vector.wide in
       w.loop-k.invariant y whole set
-  | else-not-is-zero w ↦ absurd (none_in_zeros (g.V.Vector.lanes c.window-found.result) y (sym c.is-zero.ensures ∙ w.if-not-is-zero.false) set)
+  | else-not-is_zero w ↦ absurd (none_in_zeros (g.V.Vector.lanes c.window-found.result) y (sym c.is_zero.ensures ∙ w.if-not-is_zero.false) set)
 ]
 
 pub returns-in-Some-verify : goal.returns-in-Some-verify
@@ -132,7 +132,7 @@ returns-in-Some-verify g c =
     let bytes = g.met.V.Vector.bytes c.window-found.result in
     let a = (goal.at.returns-in-Some-verify g c).After-bucket-id-items in
     let row = in_bucket (key_in t) (ids_in t) (bit % 8) in
-    let within : 64 * k + bit ≤ 8 * g.V.Vector.count = omega (arith, took.within, c.lane-count-lanes.ensures, c.loop-k-test.true) in
+    let within : 64 * k + bit ≤ 8 * g.V.Vector.count = omega (arith, took.within, c.lane_count-lanes.ensures, c.loop-k-test.true) in
     let is = read c.bucket-id-items.result.now row c.loop-i.i c.bucket-id-items.ensures in
     let got = c.in-Some-verify.ensures in
     let text = c.args.text.now in
@@ -156,35 +156,35 @@ returns-in-Some-verify g c =
 -- no digit of the text is left behind the last window
 pub returns-then-at-end : goal.returns-then-at-end
 returns-then-at-end g c =
-    let all-tried = window_below g (goal.at.returns-then-at-end g c).After-window-found (8 * g.V.Vector.count) (omega arith) (clean g (goal.at.returns-then-at-end g c).Joined-not-is-zero) in
+    let all-tried = window_below g (goal.at.returns-then-at-end g c).After-window-found (8 * g.V.Vector.count) (omega arith) (clean g (goal.at.returns-then-at-end g c).Joined-not-is_zero) in
     let h = c.args.teddy.now in
     let top = 8 * (c.search.at - (c.args.masks.now.count - 1)) + 8 * g.V.Vector.count in
     found_unique (book_in h.tables) c.args.text.now c.args.from None
     (none_answers (shared h.tables.rabinkarp) c.args.text.now c.args.from
     (λ x lo z. ⊎_elim
     (λ (l : x < top). all-tried x lo l z)
-    (λ (r : top ≤ x). omega (arith, z.1.stands.0, shortest_le (book_in h.tables) z.0 z.1.known, h.few, c.requires.counted, c.lane-count-lanes.ensures))
+    (λ (r : top ≤ x). omega (arith, z.1.stands.0, shortest_le (book_in h.tables) z.0 z.1.known, h.few, c.requires.counted, c.lane_count-lanes.ensures))
     (cases_lt x top)))
 
 pub search-preserved-then-end-at : goal.search-preserved-then-end-at
 search-preserved-then-end-at g c =
-    let all-tried = window_below g (goal.at.search-preserved-then-end-at g c).After-window-found (8 * g.V.Vector.count) (omega arith) (clean g (goal.at.search-preserved-then-end-at g c).Joined-not-is-zero) in
+    let all-tried = window_below g (goal.at.search-preserved-then-end-at g c).After-window-found (8 * g.V.Vector.count) (omega arith) (clean g (goal.at.search-preserved-then-end-at g c).Joined-not-is_zero) in
     let w = windowed g (goal.at.search-preserved-then-end-at g c).After-window-found in (
       omega arith,
       omega arith,
-      (λ x lo hi. all-tried x lo (omega (arith, c.lane-count-lanes.ensures))),
-      (c.search.invariant.3.0, omega (arith, c.search.invariant.3.1), rw c.lane-count-lanes.ensures w.1),
+      (λ x lo hi. all-tried x lo (omega (arith, c.lane_count-lanes.ensures))),
+      (c.search.invariant.3.0, omega (arith, c.search.invariant.3.1), rw c.lane_count-lanes.ensures w.1),
     )
 
 pub search-preserved : goal.search-preserved
 search-preserved g c =
-    let all-tried = window_below g (goal.at.search-preserved g c).After-window-found (8 * g.V.Vector.count) (omega arith) (clean g (goal.at.search-preserved g c).Joined-not-is-zero) in
+    let all-tried = window_below g (goal.at.search-preserved g c).After-window-found (8 * g.V.Vector.count) (omega arith) (clean g (goal.at.search-preserved g c).Joined-not-is_zero) in
     let t = c.args.teddy.now.tables in
-    let end = length c.args.text.now - c.lane-count-lanes.result in
+    let end = length c.args.text.now - c.lane_count-lanes.result in
     let all = blank (Admits (book_in t) (ids_in t) (key_in t)) g.V.Vector.count c.args.text.now end in
     let seen = c.blank-seen-else-end-at.ensures in (
       omega arith,
       omega arith,
-      (λ x lo hi. all-tried x lo (omega (arith, c.lane-count-lanes.ensures))),
+      (λ x lo hi. all-tried x lo (omega (arith, c.lane_count-lanes.ensures))),
       (end, omega arith, ((λ _. all 0 _ seen.first), (λ _. all 1 _ seen.second), (λ _. all 2 _ seen.third))),
     )

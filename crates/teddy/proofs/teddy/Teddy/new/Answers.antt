@@ -12,8 +12,8 @@ use Rattle.teddy.proofs.Hits.{key_of}
 use Rattle.teddy.proofs.Made.{low_is, high_is, placed_is}
 use Rattle.teddy.proofs.teddy.Teddy.new.Goals as goal
 
-pub invariant-of-result : goal.invariant-of-result
-invariant-of-result c =
+pub invariant_of-result : goal.invariant_of-result
+invariant_of-result c =
     let q : Closed = c.book-closed.result.now in
     let b : Closed = shared c.new-rabinkarp.result in
     let e : q ≡ b = c.book-closed.ensures in
