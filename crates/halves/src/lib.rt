@@ -1,6 +1,7 @@
 //! Two kinds of halves: sixteen bytes, and two words of 64 bits.
 
 #![tactic(auto)]
+
 pub mod array;
 mod bytes;
 pub mod word;
