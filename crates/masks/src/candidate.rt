@@ -28,9 +28,9 @@ pub struct Seen<V> {
 impl<V: Vector> Seen<V> {
     /// Before the first window: all lanes admit every bucket, so that bytes that were not loaded are not tested.
     pub fn blank() -> Seen<V>
-        ensures first { lanes result.first ≡ splatted count 255 }
-        ensures second { lanes result.second ≡ splatted count 255 }
-        ensures third { lanes result.third ≡ splatted count 255 }
+        ensures first { V.lanes result.first ≡ splatted V.count 255 }
+        ensures second { V.lanes result.second ≡ splatted V.count 255 }
+        ensures third { V.lanes result.third ≡ splatted V.count 255 }
     {
         let blank = V::splat(0xff);
         Seen {
@@ -44,10 +44,10 @@ impl<V: Vector> Seen<V> {
 /// The buckets for which each place of a window is a candidate: lane i speaks of the place `count` - 1 before its byte.
 /// `seen` then holds what the masks admitted here.
 pub fn candidate<V: Vector>(chunk: V, masks: &Masks<V>, seen: &mut Seen<V>) -> V
-    ensures found { lanes result ≡ candidates count lanes masks.now seen.old (lanes chunk) }
-    ensures first { lanes seen.new.first ≡ kept masks.now.count 1 (lanes seen.old.first) (admitted count lanes masks.now.first (lanes chunk)) }
-    ensures second { lanes seen.new.second ≡ kept masks.now.count 2 (lanes seen.old.second) (admitted count lanes masks.now.second (lanes chunk)) }
-    ensures third { lanes seen.new.third ≡ kept masks.now.count 3 (lanes seen.old.third) (admitted count lanes masks.now.third (lanes chunk)) }
+    ensures found { V.lanes result ≡ candidates V.count V.lanes masks.now seen.old (V.lanes chunk) }
+    ensures first { V.lanes seen.new.first ≡ kept masks.now.count 1 (V.lanes seen.old.first) (admitted V.count V.lanes masks.now.first (V.lanes chunk)) }
+    ensures second { V.lanes seen.new.second ≡ kept masks.now.count 2 (V.lanes seen.old.second) (admitted V.count V.lanes masks.now.second (V.lanes chunk)) }
+    ensures third { V.lanes seen.new.third ≡ kept masks.now.count 3 (V.lanes seen.old.third) (admitted V.count V.lanes masks.now.third (V.lanes chunk)) }
 {
     match masks.count {
         1 => Mask::members1(chunk, masks.first),

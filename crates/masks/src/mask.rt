@@ -15,8 +15,8 @@ pub struct Mask<V> {
 
 /// The low and the high nybble of each lane.
 fn nybbles<V: Vector>(chunk: V) -> (V, V)
-    ensures low { lanes result.0 ≡ row count (λ i. lane (lanes chunk) i % 16) }
-    ensures high { lanes result.1 ≡ row count (λ i. lane (lanes chunk) i / 16) }
+    ensures low { V.lanes result.0 ≡ row V.count (λ i. lane (V.lanes chunk) i % 16) }
+    ensures high { V.lanes result.1 ≡ row V.count (λ i. lane (V.lanes chunk) i / 16) }
 {
     let lomask = V::splat(0xf);
     let hlo = chunk.and(lomask);
@@ -26,7 +26,7 @@ fn nybbles<V: Vector>(chunk: V) -> (V, V)
 
 /// Sixteen bytes in each half.
 fn load_table<V: Vector>(table: &[u8; 16]) -> V
-    ensures { lanes result ≡ repeated count table.now }
+    ensures { V.lanes result ≡ repeated V.count table.now }
 {
     let mut twice = [0; 32];
     for i in 0..32 {
@@ -38,8 +38,8 @@ fn load_table<V: Vector>(table: &[u8; 16]) -> V
 impl<V: Vector> Mask<V> {
     /// The mask of two byte tables.
     pub fn load(table: &MaskTable) -> Mask<V>
-        ensures lo { lanes result.lo ≡ repeated count table.now.lo }
-        ensures hi { lanes result.hi ≡ repeated count table.now.hi }
+        ensures lo { V.lanes result.lo ≡ repeated V.count table.now.lo }
+        ensures hi { V.lanes result.hi ≡ repeated V.count table.now.hi }
     {
         Mask {
             lo: load_table(&table.lo),
@@ -49,14 +49,14 @@ impl<V: Vector> Mask<V> {
 
     /// The buckets that a mask admits for each byte of a chunk.
     pub fn members1(chunk: V, mask: Mask<V>) -> V
-        ensures { lanes result ≡ admitted count lanes mask (lanes chunk) }
+        ensures { V.lanes result ≡ admitted V.count V.lanes mask (V.lanes chunk) }
     {
         mask.look_up(chunk)
     }
 
     /// Looks both nybbles of each byte up, and takes the buckets that both have.
     fn look_up(self, chunk: V) -> V
-        ensures { lanes result ≡ admitted count lanes self (lanes chunk) }
+        ensures { V.lanes result ≡ admitted V.count V.lanes self (V.lanes chunk) }
     {
         let (hlo, hhi) = nybbles(chunk);
         let locand = self.lo.shuffle_bytes(hlo);
@@ -66,17 +66,17 @@ impl<V: Vector> Mask<V> {
 
     /// The same for two masks.
     pub fn members2(chunk: V, first: Mask<V>, second: Mask<V>) -> (V, V)
-        ensures one { lanes result.0 ≡ admitted count lanes first (lanes chunk) }
-        ensures two { lanes result.1 ≡ admitted count lanes second (lanes chunk) }
+        ensures one { V.lanes result.0 ≡ admitted V.count V.lanes first (V.lanes chunk) }
+        ensures two { V.lanes result.1 ≡ admitted V.count V.lanes second (V.lanes chunk) }
     {
         (Mask::members1(chunk, first), Mask::members1(chunk, second))
     }
 
     /// The same for three masks.
     pub fn members3(chunk: V, first: Mask<V>, second: Mask<V>, third: Mask<V>) -> (V, V, V)
-        ensures one { lanes result.0 ≡ admitted count lanes first (lanes chunk) }
-        ensures two { lanes result.1 ≡ admitted count lanes second (lanes chunk) }
-        ensures three { lanes result.2 ≡ admitted count lanes third (lanes chunk) }
+        ensures one { V.lanes result.0 ≡ admitted V.count V.lanes first (V.lanes chunk) }
+        ensures two { V.lanes result.1 ≡ admitted V.count V.lanes second (V.lanes chunk) }
+        ensures three { V.lanes result.2 ≡ admitted V.count V.lanes third (V.lanes chunk) }
     {
         let (one, two) = Mask::members2(chunk, first, second);
         (one, two, Mask::members1(chunk, third))
@@ -90,10 +90,10 @@ impl<V: Vector> Mask<V> {
         third: Mask<V>,
         fourth: Mask<V>,
     ) -> (V, V, V, V)
-        ensures one { lanes result.0 ≡ admitted count lanes first (lanes chunk) }
-        ensures two { lanes result.1 ≡ admitted count lanes second (lanes chunk) }
-        ensures three { lanes result.2 ≡ admitted count lanes third (lanes chunk) }
-        ensures four { lanes result.3 ≡ admitted count lanes fourth (lanes chunk) }
+        ensures one { V.lanes result.0 ≡ admitted V.count V.lanes first (V.lanes chunk) }
+        ensures two { V.lanes result.1 ≡ admitted V.count V.lanes second (V.lanes chunk) }
+        ensures three { V.lanes result.2 ≡ admitted V.count V.lanes third (V.lanes chunk) }
+        ensures four { V.lanes result.3 ≡ admitted V.count V.lanes fourth (V.lanes chunk) }
     {
         let (one, two, three) = Mask::members3(chunk, first, second, third);
         (one, two, three, Mask::members1(chunk, fourth))

@@ -8,14 +8,14 @@ use vector::vector::Vector;
 /// admits the bucket k for the byte j behind the lane's place, for all j below the mask count. Of these bytes only those are
 /// tested that were loaded since `seen` was blank; `seen` then holds what the masks admitted here.
 pub fn window<V: Vector>(text: &[u8], at: usize, masks: &Masks<V>, seen: &mut Seen<V>) -> V
-    ensures { Exact count lanes masks.now at text.now seen.old result seen.new }
+    ensures { Exact V.count V.lanes masks.now at text.now seen.old result seen.new }
 {
     loaded_window(text, at, masks, seen)
 }
 
 /// Loads the window, and asks for its candidates.
 fn loaded_window<V: Vector>(text: &[u8], at: usize, masks: &Masks<V>, seen: &mut Seen<V>) -> V
-    ensures { Exact count lanes masks.now at text.now seen.old result seen.new }
+    ensures { Exact V.count V.lanes masks.now at text.now seen.old result seen.new }
 {
     candidate(V::load(text, at), masks, seen)
 }

@@ -19,9 +19,9 @@ use vector::vector::Vector;
 
 /// Tries the candidates of window after window; the last window is the one that ends with the text.
 fn windows<V: Vector>(teddy: &Teddy, masks: &Masks<V>, text: &[u8], from: usize) -> Option<Match>
-    requires masks { MasksOf count lanes masks.now (book_in teddy.now.tables) (ids_in teddy.now.tables) (key_in teddy.now.tables) }
+    requires masks { MasksOf V.count V.lanes masks.now (book_in teddy.now.tables) (ids_in teddy.now.tables) (key_in teddy.now.tables) }
     requires counted { masks.now.count ≡ teddy.now.tables.count }
-    requires room { from + count + masks.now.count ≤ length text.now + 1 }
+    requires room { from + V.count + masks.now.count ≤ length text.now + 1 }
     ensures { result ≡ found (book_in teddy.now.tables) text.now from }
 {
     let lanes = V::lane_count();

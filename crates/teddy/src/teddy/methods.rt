@@ -59,7 +59,7 @@ impl Teddy {
     /// The masks as vectors.
     pub(crate) fn masks<V: Vector>(&self) -> Masks<V>
         ensures count { result.count ≡ self.now.tables.count }
-        ensures masks { MasksOf count lanes result (book_in self.now.tables) (ids_in self.now.tables) (key_in self.now.tables) }
+        ensures masks { MasksOf V.count V.lanes result (book_in self.now.tables) (ids_in self.now.tables) (key_in self.now.tables) }
     {
         Masks {
             count: self.tables.count,
