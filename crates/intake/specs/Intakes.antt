@@ -5,20 +5,21 @@ use Rattle.std.specs.Prelude.{◌≡◌, ℕ, List, length, Result, MatchResult}
 use Rattle.rules.specs.declared.primitives.Match.{Match}
 use Rattle.rules.specs.declared.fault.Fault.{Fault}
 use Rattle.rules.specs.Book.{Book}
+use Rattle.finder.specs.declared.finder.Finder.{Ghosts}
 use Rattle.rules.specs.Faults.{placed}
 use Rattle.rules.specs.Ledger.{scan_answer, hits_after}
 use Rattle.rules.specs.History.{Past, Model, used_by, Counted, Served}
 use Rattle.intake.specs.declared.intake.Intake.{Intake}
 use Rattle.intake.specs.Tallies.{tallies}
 
-abbrev pub model : {F : Type 0} → (F → Book) → Intake F → Model
+abbrev pub model : {F : Type 0} {g : Ghosts F} → (F → Book) → Intake F g → Model
 model book x = record { book = book x.finder; accepted = x.accepted; tallies = tallies x.table }
 
-abbrev pub Serves : {F : Type 0} → (F → Book) → Past → Intake F → Type 0
+abbrev pub Serves : {F : Type 0} {g : Ghosts F} → (F → Book) → Past → Intake F g → Type 0
 Serves book p x = Served p (model book x)
 
 -- the answer is the first refusal that is due or the number of hits; a refusal alters nothing
-pub record Scans {F : Type 0} (book : F → Book) (x : Intake F) (at : ℕ) (t : List ℕ) (hs : List Match) (r : Result ℕ Fault) (hs' : List Match) (x' : Intake F) : Type 0 where
+pub record Scans {F : Type 0} {g : Ghosts F} (book : F → Book) (x : Intake F g) (at : ℕ) (t : List ℕ) (hs : List Match) (r : Result ℕ Fault) (hs' : List Match) (x' : Intake F g) : Type 0 where
   pub finder : x'.finder ≡ x.finder
   pub answer : r ≡ placed at (scan_answer (book x.finder) (used_by (model book x)) t (length hs))
   pub hits : hs' ≡ hits_after (book x.finder) t hs r

@@ -1,6 +1,7 @@
 //! Worked examples of a search, of the rolling hash and of the lanes.
 
 #![tactic(auto)]
+
 ghost use Rattle.std.specs.Prelude.{◌≡◌, true};
 ghost use Rattle.lines.specs.Lines.{Lines};
 

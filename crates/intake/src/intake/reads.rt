@@ -14,7 +14,7 @@ impl<F: Finder> Intake<F> {
     /// An intake that has accepted no text, with all tallies at 0.
     pub fn new(finder: F) -> Intake<F>
         ensures finder { result.finder ≡ finder }
-        ensures served { Serves book (opened (book finder)) result }
+        ensures served { Serves F.book (opened (F.book finder)) result }
     {
         Intake {
             finder,
@@ -25,7 +25,7 @@ impl<F: Finder> Intake<F> {
 
     // The tally that the table has of a pattern of the book.
     fn tally_of(&self, id: PatternID) -> Result<u32, Fault>
-        ensures { result ≡ placed 0 (tally_in (model book self.now) id.0.0) }
+        ensures { result ≡ placed 0 (tally_in (model F.book self.now) id.0.0) }
     {
         if id.as_usize() >= self.finder.pattern_count() {
             return Err(Fault {
@@ -38,16 +38,16 @@ impl<F: Finder> Intake<F> {
 
     /// How often a pattern was hit in the texts accepted so far. An id that the book lacks is refused.
     pub fn tally(&self, id: PatternID) -> Result<u32, Fault>
-        ensures value { result ≡ placed 0 (tally_in (model book self.now) id.0.0) }
-        ensures served { (p : Past) → Serves book p self.now → Serves book (then p (ask_tally id.0.0) (told_tally (told result))) self.now }
+        ensures value { result ≡ placed 0 (tally_in (model F.book self.now) id.0.0) }
+        ensures served { (p : Past) → Serves F.book p self.now → Serves F.book (then p (ask_tally id.0.0) (told_tally (told result))) self.now }
     {
         self.tally_of(id)
     }
 
     /// How many texts were accepted.
     pub fn count(&self) -> u32
-        ensures value { result ≡ (model book self.now).accepted }
-        ensures served { (p : Past) → Serves book p self.now → result ≡ length (state p).texts }
+        ensures value { result ≡ (model F.book self.now).accepted }
+        ensures served { (p : Past) → Serves F.book p self.now → result ≡ length (state p).texts }
     {
         self.accepted
     }

@@ -9,11 +9,11 @@ use Rattle.intake.proofs.calls.scan_into.Goals as goal
 
 pub returns : goal.returns
 returns g c =
-    let e = c.scan_answer.ensures.scans in
-    let long : length c.scan_answer.new.hits ≡ c.args.hits.len = omega (arith, c.scan_answer.auto.hits, c.as_mut_slice.ensures.len) in
-    let back = with_items_is c.args.hits c.scan_answer.new.hits long in
+    let e = c.scan-answer.ensures.scans in
+    let long : length c.scan-answer.new.hits ≡ c.args.hits.len = omega (arith, c.scan-answer.auto.hits, c.as_mut_slice.ensures.len) in
+    let back = with_items_is c.args.hits c.scan-answer.new.hits long in
     record {
       finder = e.finder;
-      outside = placed_at 0 _ c.scan_answer.result e.answer;
-      served = λ p s. subst (λ q. q) (λ i. Serves g.F.Finder.book (then p (ask_scan c.args.text.now (c.as_mut_slice.ensures.value i)) (told_scan (told c.scan_answer.result) (sym back i))) c.scan_answer.new.self) (c.scan_answer.ensures.served p s);
+      outside = placed_at 0 _ c.scan-answer.result e.answer;
+      served = λ p s. subst (λ q. q) (λ i. Serves g.F.Finder.book (then p (ask_scan c.args.text.now (c.as_mut_slice.ensures.value i)) (told_scan (told c.scan-answer.result) (sym back i))) c.scan-answer.new.self) (c.scan-answer.ensures.served p s);
     }

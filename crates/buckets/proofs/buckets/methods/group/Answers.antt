@@ -73,10 +73,11 @@ invariant_of-result c =
     let key : ℕ → ℕ = λ id. get_or c.args.keys.now id 0 % 64 in
     let xs = c.args.order.now in
     let o = c.loop-k in
-    let g = finished o.row o.starts key (map number xs) o.k (omega (arith, c.loop-k-test.false, o.auto.k-end)) o.invariant.0 o.invariant.1 o.invariant.3 in (
-      rising_of o.row o.starts key (map number xs) g,
-      (within_of o.row o.starts key (map number xs) g (omega (arith, length-map xs number, c.requires.few)), tt),
-    )
+    let g = finished o.row o.starts key (map number xs) o.k (omega (arith, c.loop-k-test.false, o.auto.k-end)) o.invariant.0 o.invariant.1 o.invariant.3 in
+    record {
+      rising = rising_of o.row o.starts key (map number xs) g;
+      within = within_of o.row o.starts key (map number xs) g (omega (arith, length-map xs number, c.requires.few));
+    }
 
 pub returns : goal.returns
 returns c =

@@ -42,7 +42,11 @@ pub invariant_of-self : goal.invariant_of-self
 invariant_of-self g c =
     let at = (goal.at.invariant_of-self g c).After-write_hits in
     let e = c.raise_all.ensures in
-    (e.len, (omega (arith, (due g at).few), (omega (arith, e.total, ap length (front g at), rest_short _ (within g at) c.args.text.now 0, c.args.self.now.room, (due g at).short), tt)))
+    record {
+      sized = e.len;
+      few = omega (arith, (due g at).few);
+      room = omega (arith, e.total, ap length (front g at), rest_short _ (within g at) c.args.text.now 0, c.args.self.now.room, (due g at).short);
+    }
 
 pub returns : goal.returns
 returns g c =
