@@ -1,7 +1,7 @@
 //! A half as sixteen bytes.
 ghost use Rattle.std.specs.Prelude.{◌≡◌, ℕ, ◌<◌, length};
 ghost use Rattle.vector.specs.Lanes.{lane};
-ghost use Rattle.std.proofs.Common.{rules, arith};
+ghost use Rattle.std.proofs.Common.{rules};
 
 use crate::bytes;
 use vector::half::Half;
@@ -26,9 +26,9 @@ impl ArrayHalf {
 impl Half for ArrayHalf {
     ghost lanes = { λ h. h.bytes };
 
-    ghost sixteen = { first_of (Prim.search rules, Prim.grind (arith, Self.row.coded.inj)) };
+    ghost sixteen = { Prim.search rules };
 
-    ghost bytes = { first_of (Prim.search rules, Prim.grind (arith, Self.row.coded.inj)) };
+    ghost bytes = { Prim.search rules };
 
     fn splat(byte: u8) -> ArrayHalf {
         ArrayHalf::new(bytes::splat(byte))

@@ -5,7 +5,7 @@ ghost use Rattle.rules.specs.Places.{AnswersAt};
 ghost use Rattle.pattern.specs.Closed.{book_of};
 ghost use Rattle.hash.specs.Hash.{hash_of, window};
 ghost use Rattle.rabinkarp.specs.Searched.{searched};
-ghost use Rattle.std.proofs.Common.{rules, arith};
+ghost use Rattle.std.proofs.Common.{rules};
 
 use crate::rabinkarp::hashes::hashes;
 use crate::rabinkarp::{RabinKarp, Tables};
@@ -90,7 +90,7 @@ impl RabinKarp {
 impl Finder for RabinKarp {
     ghost book = { λ x. searched x };
 
-    ghost within = { first_of (Prim.search rules, Prim.grind (arith, Self.row.coded.inj)) };
+    ghost within = { Prim.search rules };
 
     fn pattern_count(&self) -> usize {
         self.tables.book.len()

@@ -13,7 +13,7 @@ use Rattle.rabinkarp.proofs.rabinkarp.RabinKarp.find_from.Goals.{then-at-text-vi
 
 -- an occurrence has its window in the text
 fits : (x : RabinKarp) (t : List ℕ) (i s : ℕ) → OccursAt (searched x) t i s → s + x.tables.hash_len ≤ length t
-fits x t i s o = omega (arith, x.decreases, shortest_le (searched x) i o.known, o.stands.0)
+fits x t i s o = omega (arith, x.measured, shortest_le (searched x) i o.known, o.stands.0)
 
 -- the hash of the next window
 next : (x : RabinKarp) (t : List ℕ) (s h : ℕ) → s < length t - x.tables.hash_len → h ≡ hash_of (window t (shortest (searched x)) s)
@@ -21,9 +21,9 @@ next : (x : RabinKarp) (t : List ℕ) (s h : ℕ) → s < length t - x.tables.ha
 next x t s h l e =
     let m = shortest (searched x) in
     ap (λ n. moved n x.tables.hash_2pow (get_or t s 0) (get_or t (s + x.tables.hash_len) 0)) e
-    ∙ (ap (λ n. moved (hash_of (window t m s)) n (get_or t s 0) (get_or t (s + x.tables.hash_len) 0)) (x.counted ∙ ap leading x.decreases)
-    ∙ (ap (λ n. moved (hash_of (window t m s)) (leading m) (get_or t s 0) (get_or t (s + n) 0)) x.decreases
-    ∙ rolling t m s (shortest_pos (searched x) (rc_value x.tables.book).some) (omega (arith, x.decreases))))
+    ∙ (ap (λ n. moved (hash_of (window t m s)) n (get_or t s 0) (get_or t (s + x.tables.hash_len) 0)) (x.counted ∙ ap leading x.measured)
+    ∙ (ap (λ n. moved (hash_of (window t m s)) (leading m) (get_or t s 0) (get_or t (s + n) 0)) x.measured
+    ∙ rolling t m s (shortest_pos (searched x) (rc_value x.tables.book).some) (omega (arith, x.measured))))
 
 pub returns-then-at-text : goal.returns-then-at-text
 returns-then-at-text c = λ o h le.

@@ -14,16 +14,10 @@ invariant_of-result c =
     let key : ℕ → ℕ = λ i. get_or hs i 0 % 64 in
     let hashed : (i : ℕ) → i < count_of (book_of b) → get_or hs i 0 ≡ prefix_hash (book_of b) i =
     subst (λ (q : Book). (i : ℕ) → i < count_of (book_of q) → get_or hs i 0 ≡ prefix_hash (book_of q) i) c.deref-2.ensures c.hashes-hashes.ensures in
-    let held = subst (λ (q : Book). Holds c.new-buckets.result key (order_in q)) c.deref-3.ensures c.new-buckets.ensures in (
-      c.minimum_len-hash_len.ensures ∙ ap (λ (q : Book). shortest (book_of q)) c.deref.ensures,
-      (
-        c.hash_2pow-hash_2pow.ensures,
-        (
-          hashed,
-          (
-            (λ k l. held k l ∙ bucket_same b key k (bucket_of (book_of b)) (λ i known. ap (λ n. n % 64) (hashed i known))),
-            tt,
-          ),
-        ),
-      ),
-    )
+    let held = subst (λ (q : Book). Holds c.new-buckets.result key (order_in q)) c.deref-3.ensures c.new-buckets.ensures in
+    record {
+      measured = c.minimum_len-hash_len.ensures ∙ ap (λ (q : Book). shortest (book_of q)) c.deref.ensures;
+      counted = c.hash_2pow-hash_2pow.ensures;
+      hashed = hashed;
+      placed = λ k l. held k l ∙ bucket_same b key k (bucket_of (book_of b)) (λ i known. ap (λ n. n % 64) (hashed i known));
+    }
