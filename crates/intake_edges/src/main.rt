@@ -2,6 +2,7 @@
 //! count and the tallies are then.
 
 #![tactic(auto)]
+
 use finder::plain::Plain;
 use intake::intake::Intake;
 use pattern::patterns::Patterns;

@@ -1,6 +1,7 @@
 //! Runs every operation on every kind of vector, and compares the answers with one another.
 
 #![tactic(auto)]
+
 use halves::array::ArrayHalf;
 use halves::word::WordHalf;
 use std::io;

@@ -21,22 +21,13 @@ invariant_of-result c =
     let said = c.assign-assigned.ensures in
     let count : c.clamped-count.result ≡ nearest c.args.masks (book_of b) = subst (λ (x : Closed). c.clamped-count.result ≡ nearest c.args.masks (book_of x)) e c.clamped-count.ensures in
     let is : (j : ℕ) (m : MaskTable) → m.lo ≡ _ → m.hi ≡ _ → (m.lo ≡ low_mask (book_of b) (order_in b) (key_of b) j) × (m.hi ≡ high_mask (book_of b) (order_in b) (key_of b) j) =
-    λ j m lo hi. subst (λ (x : Closed). (m.lo ≡ low_mask (book_of x) (order_in x) (key_of x) j) × (m.hi ≡ high_mask (book_of x) (order_in x) (key_of x) j)) e (lo ∙ low_is q table said j, hi ∙ high_is q table said j) in (
-      omega (arith, count, shortest_pos (book_of b) b.some),
-      (
-        omega (arith, count),
-        (
-          subst (λ (x : Closed). (k : ℕ) → k < 8 → members c.new-buckets.result k ≡ in_bucket (key_of x) (order_in x) k) e (placed_is q table said c.new-buckets.result c.new-buckets.ensures),
-          (
-            is 0 c.new-first.result c.new-first.ensures.lo c.new-first.ensures.hi,
-            (
-              is 1 c.new-second.result c.new-second.ensures.lo c.new-second.ensures.hi,
-              (
-                is 2 c.new-third.result c.new-third.ensures.lo c.new-third.ensures.hi,
-                (is 3 c.new-fourth.result c.new-fourth.ensures.lo c.new-fourth.ensures.hi, tt),
-              ),
-            ),
-          ),
-        ),
-      ),
-    )
+    λ j m lo hi. subst (λ (x : Closed). (m.lo ≡ low_mask (book_of x) (order_in x) (key_of x) j) × (m.hi ≡ high_mask (book_of x) (order_in x) (key_of x) j)) e (lo ∙ low_is q table said j, hi ∙ high_is q table said j) in
+    record {
+      some = omega (arith, count, shortest_pos (book_of b) b.some);
+      few = omega (arith, count);
+      placed = subst (λ (x : Closed). (k : ℕ) → k < 8 → members c.new-buckets.result k ≡ in_bucket (key_of x) (order_in x) k) e (placed_is q table said c.new-buckets.result c.new-buckets.ensures);
+      mask0 = is 0 c.new-first.result c.new-first.ensures.lo c.new-first.ensures.hi;
+      mask1 = is 1 c.new-second.result c.new-second.ensures.lo c.new-second.ensures.hi;
+      mask2 = is 2 c.new-third.result c.new-third.ensures.lo c.new-third.ensures.hi;
+      mask3 = is 3 c.new-fourth.result c.new-fourth.ensures.lo c.new-fourth.ensures.hi;
+    }
