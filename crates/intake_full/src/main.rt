@@ -1,6 +1,7 @@
 //! An intake that accepts as many texts as it may, and refuses one more.
 
 #![tactic(auto)]
+
 use finder::plain::Plain;
 use intake::intake::Intake;
 use pattern::patterns::Patterns;

@@ -1,6 +1,7 @@
 //! Runs the mask searcher over all vectors and mask counts, and compares its answers with those of the other searchers.
 
 #![tactic(auto)]
+
 use finder::finder::Finder;
 use finder::plain::Plain;
 use halves::array::ArrayHalf;
