@@ -21,8 +21,8 @@ use vector::single::Single;
 
 /// Every pattern's tally, by rising id.
 fn tallies<F: Finder>(heap: Global, intake: &Intake<F>, count: usize) -> Result<Vec<u32>, Fault>
-    requires { count ≡ count_of (model book intake.now).book }
-    ensures { MatchResult result (λ v. (length v.items ≡ count) × ((i : ℕ) → i < count → slice_index v.items i ≡ slice_index (model book intake.now).tallies i)) (λ f. f.refusal ≡ Memory) }
+    requires { count ≡ count_of (model F.book intake.now).book }
+    ensures { MatchResult result (λ v. (length v.items ≡ count) × ((i : ℕ) → i < count → slice_index v.items i ≡ slice_index (model F.book intake.now).tallies i)) (λ f. f.refusal ≡ Memory) }
 {
     let mut tallies = Vec::new(heap);
     for i in 0..count {
@@ -40,7 +40,7 @@ fn sum_up<F: Finder + Drop>(
     lines: &mut Vec<Line>,
 ) -> Result<Summary, Fault>
     requires { lines.old.items ≡ [] }
-    ensures { Sums (book finder) (reading texts.entry.job.now texts.entry.at) lines.new.items result }
+    ensures { Sums (F.book finder) (reading texts.entry.job.now texts.entry.at) lines.new.items result }
 {
     let count = finder.pattern_count();
     let intake = scan_texts(heap, finder, texts, lines)?;

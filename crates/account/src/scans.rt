@@ -41,7 +41,7 @@ pub(crate) fn scan_text<F: Finder>(
     text: &[u8],
 ) -> Result<(), Fault>
     requires { length hits.old ≡ 4096 }
-    ensures { Noted (model book intake.old) lines.old.items place text.now result lines.new.items (model book intake.new) }
+    ensures { Noted (model F.book intake.old) lines.old.items place text.now result lines.new.items (model F.book intake.new) }
 {
     lines.try_reserve(MAX_HITS)?;
     let number = intake.count();
@@ -57,7 +57,7 @@ pub(crate) fn scan_texts<F: Finder + Drop>(
     texts: Reader<'_>,
     lines: &mut Vec<Line>,
 ) -> Result<Intake<F>, Fault>
-    ensures { TextsServed (book finder) (reading texts.entry.job.now texts.entry.at) lines.old.items lines.new.items (modelled (model book) result) }
+    ensures { TextsServed (F.book finder) (reading texts.entry.job.now texts.entry.at) lines.old.items lines.new.items (modelled (model F.book) result) }
 {
     let mut intake = Intake::new(finder);
     let mut hits = vec![in heap; BLANK; MAX_HITS]?;
