@@ -2,6 +2,7 @@
 //! `tools/compare/run --record crates/answers/data/answers` made the list.
 
 #![tactic(auto)]
+
 use host::find;
 use std::alloc::Global;
 use std::{fs, io};

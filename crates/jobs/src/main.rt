@@ -1,6 +1,7 @@
 //! Runs the stored jobs, and compares what is printed of each with what stands beside it.
 
 #![tactic(auto)]
+
 use account::report::report;
 use account::run::run;
 use std::{fs, io};

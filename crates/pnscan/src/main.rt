@@ -1,6 +1,7 @@
 //! Reads a job on standard input, and prints its hits, and then the number of texts and the tallies, or its fault.
 
 #![tactic(auto)]
+
 use account::report::report;
 use account::run::run;
 use anyhow::anyhow;

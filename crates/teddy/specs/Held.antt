@@ -11,7 +11,7 @@ use Rattle.rabinkarp.specs.Searched.{shared}
 use Rattle.tables.specs.declared.mask.MaskTable.{MaskTable}
 use Rattle.tables.specs.Buckets.{front, bucket_of}
 use Rattle.tables.specs.Masks.{low_mask, high_mask}
-use Rattle.teddy.specs.declared.tables.Tables.{Tables}
+use Rattle.teddy.specs.declared.teddy_tables.Tables.{Tables}
 
 abbrev pub book_in : Tables → Book
 book_in t = book_of (shared t.rabinkarp)

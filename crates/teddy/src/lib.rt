@@ -3,5 +3,5 @@
 #![tactic(auto)]
 
 pub mod slim;
-pub mod tables;
 pub mod teddy;
+pub mod teddy_tables;

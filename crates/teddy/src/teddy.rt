@@ -3,7 +3,7 @@ ghost use Rattle.buckets.specs.Buckets.{members, in_bucket};
 ghost use Rattle.tables.specs.Buckets.{front};
 ghost use Rattle.teddy.specs.Held.{book_in, ids_in, key_in, MaskIs};
 
-use crate::tables::Tables;
+use crate::teddy_tables::Tables;
 
 pub mod methods;
 

@@ -7,8 +7,8 @@ ghost use Rattle.buckets.specs.Buckets.{in_bucket};
 ghost use Rattle.masks.specs.Places.{MasksOf};
 ghost use Rattle.teddy.specs.Held.{book_in, ids_in, key_in, nearest};
 
-use crate::tables::Tables;
 use crate::teddy::Teddy;
+use crate::teddy_tables::Tables;
 use buckets::buckets::Buckets;
 use finder::compare::stands;
 use masks::candidate::Masks;
