@@ -1,5 +1,5 @@
 -- What is printed of a list with one element more.
-use Rattle.std.proofs.Common.{◌≡◌, ℕ, suc, ◌+◌, List, [], ◌∷◌, ◌++◌, length, sym, refl, ap, ◌∙◌, append_assoc, append-nil, add-zero, arith}
+use Rattle.std.proofs.Common.{◌≡◌, ℕ, suc, ◌+◌, List, [], ◌∷◌, ◌++◌, length, sym, ap, ◌∙◌, append_assoc, append-nil, add-zero, arith}
 use Rattle.account.specs.declared.account.Line.{Line}
 use Rattle.account.specs.Accounts.{shown_line}
 use Rattle.account.specs.Printed.{newline, printed_lines, tally_line, printed_tallies}

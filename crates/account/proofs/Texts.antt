@@ -1,5 +1,5 @@
 -- The texts of a job, one after another.
-use Rattle.std.proofs.Common.{◌≡◌, ℕ, suc, ◌+◌, ◌≤◌, true, false, cond, List, [], ◌∷◌, ◌++◌, map, length, is_ok, Some, None, Ok, Err, Option, Result, sym, refl, ap, ◌∙◌, subst, ⊎_elim, append_assoc, append-nil, add-zero, add-suc, add-one, arith}
+use Rattle.std.proofs.Common.{◌≡◌, ℕ, suc, ◌+◌, ◌≤◌, true, false, cond, List, [], ◌∷◌, ◌++◌, map, length, is_ok, Some, None, Ok, Err, Option, Result, sym, refl, ap, ◌∙◌, ⊎_elim, append_assoc, append-nil, add-zero, add-one, arith}
 use Rattle.std.proofs.lemmas.List.{length_push}
 use Rattle.std.proofs.lemmas.Bool.{cond-true, cases_lt}
 use Rattle.rules.specs.declared.fault.Fault.{Fault}
@@ -13,7 +13,6 @@ use Rattle.job.specs.Records.{Item, Reading, item, put, ends, reading}
 use Rattle.job.specs.Opening.{is_text}
 use Rattle.job.proofs.Steps.{step_end, step_over}
 use Rattle.job.proofs.Readings.{reading_good, reading_bad, reading_over}
-use Rattle.account.specs.declared.account.Line.{Line}
 use Rattle.account.specs.Accounts.{line, scanned, accepted, ended, lines_of}
 
 pub lines_more : (b : Book) (n : ℕ) (ts : List (List ℕ)) (t : List ℕ) → lines_of b n (ts ++ t ∷ []) ≡ lines_of b n ts ++ map (line (n + length ts)) (listing b t)

@@ -7,7 +7,7 @@
 -- TextsServed           what scanning all texts that are left to read did
 -- Summed b ts s          the summary s is that of the texts ts: their number, and each pattern's hits in them
 -- Accounts job ls end    the account of a job: its lines, and the summary or the fault at its end
-use Rattle.std.specs.Prelude.{◌≡◌, ℕ, suc, ◌<◌, true, cond, ◌⊎◌, List, [], ◌∷◌, ◌++◌, map, length, is_ok, Some, None, Ok, Err, vec_items, codes, decimal, Option, Result, MatchOption, MatchResult, slice_index}
+use Rattle.std.specs.Prelude.{◌≡◌, ℕ, suc, ◌<◌, true, cond, ◌⊎◌, List, [], ◌∷◌, ◌++◌, map, length, is_ok, Some, None, Ok, Err, vec_items, codes, decimal, Option, Result, MatchResult, slice_index}
 use Rattle.rules.specs.declared.fault.Fault.{Fault}
 use Rattle.rules.specs.declared.fault.Refusal.{Refusal}
 use Rattle.rules.specs.declared.fault.Refusal.TheVariants.{AfterText, Memory}
@@ -15,7 +15,7 @@ use Rattle.rules.specs.declared.primitives.Match.{Match}
 use Rattle.rules.specs.Book.{Book, count_of}
 use Rattle.rules.specs.Search.{id_of}
 use Rattle.rules.specs.Listing.{listing}
-use Rattle.rules.specs.Ledger.{State, hits_of, scan_answer}
+use Rattle.rules.specs.Ledger.{hits_of, scan_answer}
 use Rattle.rules.specs.History.{Model, Counted, Keeps}
 use Rattle.pattern.specs.Entering.{refused}
 use Rattle.job.specs.Format.{pattern, first, longest, text}

@@ -1,12 +1,12 @@
 -- The first pattern in the order of trying that stands at a place is the preferred one.
-use Rattle.std.proofs.Common.{◌≡◌, ℕ, ◌<◌, List, map, length, get_or, sym, ap, ◌∙◌, subst, inl, inr, arith}
+use Rattle.std.proofs.Common.{◌≡◌, ℕ, ◌<◌, List, map, length, get_or, sym, ap, ◌∙◌, subst, inl, inr}
 use lib.ListN.{get_or-map}
 use Rattle.std.proofs.lemmas.Bool.{cases_order}
 use Rattle.rules.specs.declared.primitives.PatternID.{PatternID}
 use Rattle.rules.specs.Book.{Book, id, pattern, Preferred}
 use Rattle.rules.specs.Search.{Stands, OccursAt}
 use Rattle.rules.proofs.Rule.{preferred_self}
-use Rattle.pattern.specs.Order.{number, ReadingOrder}
+use Rattle.pattern.specs.Order.{number}
 
 -- the index of the id at a place of a list of ids
 pub read : (xs : List PatternID) (ids : List ℕ) (i : ℕ) → map number xs ≡ ids → (get_or xs i (id 0)).0.0 ≡ get_or ids i 0

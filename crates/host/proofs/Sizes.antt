@@ -1,13 +1,12 @@
 -- A hit lies within a text, and a text within its job.
-use Rattle.std.proofs.Common.{◌≡◌, ℕ, ◌+◌, ◌≤◌, ◌&&◌, eqb, ltb, leb, List, length, get_or, drop, Some, None, Ok, Err, Option, Result, sym, refl, ap, ◌∙◌, arith, length-drop, length-take}
+use Rattle.std.proofs.Common.{◌≡◌, ℕ, ◌+◌, ◌≤◌, ◌&&◌, eqb, ltb, leb, List, length, get_or, drop, Some, None, Ok, Option, Result, ap, arith, length-drop, length-take}
 use Rattle.std.proofs.lemmas.Bool.{cond_both, ltb-false}
-use Rattle.rules.specs.declared.fault.Fault.{Fault}
 use Rattle.rules.specs.declared.fault.Refusal.{Refusal}
 use Rattle.rules.specs.declared.primitives.Match.{Match}
 use Rattle.rules.specs.Book.{Book, count_of}
 use Rattle.rules.specs.Search.{found}
 use Rattle.rules.proofs.Listings.{found_some}
-use Rattle.job.specs.Format.{Entry, pattern, first, longest, text, size, body, bare, made_of, settled, step}
+use Rattle.job.specs.Format.{Entry, size, body, made_of, settled, step}
 use Rattle.job.specs.Opening.{opened}
 use Rattle.host.specs.Outcomes.{text_in, Small}
 

@@ -1,5 +1,5 @@
 -- The text at which a reader stands is the first of the job, where what is left to read is the texts.
-use Rattle.std.proofs.Common.{◌≡◌, ℕ, ◌<◌, ◌≤◌, false, List, length, Ok, sym, refl, ap, ◌∙◌, ⊎_elim, arith}
+use Rattle.std.proofs.Common.{◌≡◌, ℕ, ◌≤◌, false, List, length, Ok, sym, refl, ap, ◌∙◌, ⊎_elim, arith}
 use Rattle.std.proofs.lemmas.Bool.{cases_lt, cond-false}
 use Rattle.rules.specs.declared.fault.Refusal.{Refusal}
 use Rattle.rules.specs.Book.{Book}

@@ -1,12 +1,12 @@
 -- One event more of an intake.
-use Rattle.std.proofs.Common.{◌≡◌, ℕ, ◌<◌, true, false, cond, ltb, List, [], ◌∷◌, ◌++◌, length, get_or, take, is_ok, Ok, Err, Result, sym, refl, ap, ◌∙◌, subst, ⊎_elim, append_assoc, arith, MatchResult}
+use Rattle.std.proofs.Common.{◌≡◌, ℕ, cond, ltb, List, [], ◌∷◌, ◌++◌, length, get_or, is_ok, Ok, Err, Result, sym, refl, ap, ◌∙◌, subst, ⊎_elim, MatchResult}
 use Rattle.std.proofs.lemmas.Bool.{cond-false, le-ltb, cases_lt}
 use Rattle.rules.specs.declared.primitives.Match.{Match}
 use Rattle.rules.specs.declared.fault.Fault.{Fault}
 use Rattle.rules.specs.declared.fault.Refusal.{Refusal}
 use Rattle.rules.specs.declared.fault.Refusal.TheVariants.{UnknownPattern}
 use Rattle.rules.specs.Book.{Book, Within, count_of}
-use Rattle.rules.specs.Listing.{listing, Covers}
+use Rattle.rules.specs.Listing.{Covers}
 use Rattle.rules.specs.Faults.{placed, numbered, told}
 use Rattle.rules.specs.Ledger.{State, starts, used, accepts, scan_answer, scan_of, hits_after, tally_answer, Asked, ask_scan, ask_tally, Told, told_scan, told_tally, tells, adds}
 use Rattle.rules.specs.History.{Event, after, Past, opened, then, state, Covered, ToldSo, Model, used_by, tally_in, Counted, Keeps, Served}
@@ -15,7 +15,7 @@ use Rattle.rules.proofs.Enters.{entered}
 use Rattle.finder.specs.declared.finder.Finder.{Ghosts}
 use Rattle.intake.specs.declared.intake.Intake.{Intake}
 use Rattle.intake.specs.Intakes.{model, Serves, Scans}
-use Rattle.intake.proofs.Scans.{Accepted, accepted, hits_front, told_placed, hits_placed, keeps_more}
+use Rattle.intake.proofs.Scans.{accepted, hits_front, told_placed, hits_placed, keeps_more}
 
 after_push : (s : State) (es : List Event) (e : Event) → after s (es ++ e ∷ []) ≡ adds (after s es) e.asked
 after_push s [] e = refl

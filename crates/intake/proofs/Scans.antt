@@ -1,17 +1,16 @@
 -- One scan, and the ledger's texts.
-use Rattle.std.proofs.Common.{◌≡◌, ℕ, ◌+◌, ◌-◌, ◌<◌, ◌≤◌, Bool, true, false, cond, ltb, leb, List, [], ◌∷◌, ◌++◌, length, get_or, take, drop, replicate, is_ok, Ok, Err, Result, sym, refl, ap, ◌∙◌, subst, ⊎_elim, arith}
+use Rattle.std.proofs.Common.{◌≡◌, ℕ, ◌+◌, ◌<◌, ◌≤◌, ltb, leb, List, length, get_or, take, drop, replicate, Ok, Err, Result, sym, refl, ap, ◌∙◌, subst, ⊎_elim, arith}
 use Rattle.std.specs.List.{AllByRecursion as All}
 use Rattle.std.proofs.ByRecursion.{All-weaker}
 use Rattle.std.proofs.lemmas.List.{take_at, length_push, get_or-replicate, get_or_past}
 use Rattle.std.proofs.lemmas.List.Sums.{sum_by_push}
 use Rattle.std.proofs.lemmas.Bool.{cond_both, cases_lt, ltb-false, leb-false}
 use Rattle.rules.specs.declared.primitives.Match.{Match}
-use Rattle.rules.specs.declared.fault.Fault.{Fault}
 use Rattle.rules.specs.declared.fault.Refusal.{Refusal}
 use Rattle.rules.specs.declared.fault.Refusal.TheVariants.{TextTooLong, TooManyTexts, HitsTooShort}
 use Rattle.rules.specs.Book.{Book, Within, count_of}
 use Rattle.rules.specs.Search.{id_of, Occurs}
-use Rattle.rules.specs.Listing.{listing, Covers}
+use Rattle.rules.specs.Listing.{listing}
 use Rattle.rules.specs.Faults.{placed, numbered, told}
 use Rattle.rules.specs.Ledger.{State, starts, accepts, hits_with, hits_of, scan_answer, hits_after}
 use Rattle.rules.specs.History.{Model, Counted, Keeps}

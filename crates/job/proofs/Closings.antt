@@ -1,6 +1,6 @@
 -- A book that is closed with as many masks as it permits is refused only for want of patterns.
-use Rattle.std.proofs.Common.{◌≡◌, ℕ, ◌<◌, min, Bool, true, false, cond, ◌||◌, eqb, ltb, Some, None, Ok, Err, Result, sym, refl, ap, ◌∙◌, subst, inl, inr, arith, MatchOption}
-use Rattle.std.proofs.lemmas.Bool.{cases_Bool, ne_eqb, le-ltb}
+use Rattle.std.proofs.Common.{◌≡◌, ℕ, ◌<◌, min, Bool, true, false, cond, ◌||◌, eqb, ltb, Some, None, Ok, Err, Result, sym, ap, arith, MatchOption}
+use Rattle.std.proofs.lemmas.Bool.{ne_eqb, le-ltb}
 use Rattle.rules.specs.declared.fault.Fault.{Fault}
 use Rattle.rules.specs.declared.fault.Refusal.TheVariants.{NoPatterns, BadMaskCount}
 use Rattle.rules.specs.Book.{Book, count_of, shortest}

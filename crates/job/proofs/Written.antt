@@ -1,11 +1,10 @@
 -- A job that is records in a row reads as those records.
-use Rattle.std.proofs.Common.{◌≡◌, ℕ, ◌+◌, ◌*◌, ◌/◌, ◌%◌, ◌<◌, ◌≤◌, List, [], ◌∷◌, ◌++◌, length, get_or, take, drop, None, Ok, sym, refl, ap, ◌∙◌, subst, append_assoc, append-nil, add-zero, arith, length-append}
+use Rattle.std.proofs.Common.{◌≡◌, ℕ, ◌+◌, ◌*◌, ◌/◌, ◌%◌, List, [], ◌∷◌, ◌++◌, length, get_or, take, drop, None, Ok, sym, refl, ap, ◌∙◌, append_assoc, append-nil, add-zero, arith, length-append}
 use native.Mathlib.Nat.{mod-add-div}
-use Rattle.std.specs.List.{AllByRecursion as All}
 use Rattle.std.proofs.lemmas.List.{get_or-append-add, take_at, drop_at}
 use Rattle.job.specs.Format.{Entry, pattern, first, longest, text, good, size, made_of, settled, step}
 use Rattle.job.specs.Format as format
-use Rattle.job.specs.Records.{Item, Reading, item, put, ends, reading}
+use Rattle.job.specs.Records.{item, put, reading}
 use Rattle.job.specs.Written.{body, mark, written, job_of, items_of}
 use Rattle.job.proofs.Steps.{step_whole}
 use Rattle.job.proofs.Readings.{reading_good, reading_over}

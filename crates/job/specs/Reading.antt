@@ -1,7 +1,7 @@
 -- entry r       what a record holds
 -- told r next   the answer of the reader as a step, where it then stands at next
 -- placed r at   the place that the answer names
-use Rattle.std.specs.Prelude.{◌≡◌, ℕ, Some, None, Ok, Err, Option, Result}
+use Rattle.std.specs.Prelude.{ℕ, Some, None, Ok, Err, Option, Result}
 use Rattle.rules.specs.declared.fault.Fault.{Fault}
 use Rattle.rules.specs.declared.fault.Refusal.{Refusal}
 use Rattle.job.specs.declared.record.Record.{Record}

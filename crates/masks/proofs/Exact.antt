@@ -1,15 +1,15 @@
 -- The digits of a window's candidates are exactly the places that are candidates.
-use Rattle.std.proofs.Common.{◌≡◌, ℕ, zero, suc, ◌+◌, ◌-◌, ◌*◌, ◌/◌, ◌%◌, ◌^◌, ◌<◌, ◌≤◌, Bool, true, false, cond, eqb, ltb, ◌⊎◌, ◌↔◌, List, sym, refl, ap, ◌∙◌, subst, inl, inr, ⊎_elim, arith}
+use Rattle.std.proofs.Common.{◌≡◌, ℕ, zero, suc, ◌+◌, ◌-◌, ◌<◌, ◌≤◌, true, false, cond, eqb, ltb, ◌↔◌, List, sym, refl, ◌∙◌, subst, ⊎_elim, arith}
 use lib.Bits.{bit_and}
-use Rattle.std.proofs.lemmas.Bool.{cases_lt, cond-true, cond-false, ne_eqb}
+use Rattle.std.proofs.lemmas.Bool.{cases_lt, cond-false, ne_eqb}
 use Rattle.std.proofs.lemmas.Bool.Decides.{nat_tests}
 use Rattle.bits.specs.Digits.{IsSet}
-use Rattle.vector.specs.Lanes.{lane, row, splatted, anded, shifted_in}
+use Rattle.vector.specs.Lanes.{lane, splatted, anded, shifted_in}
 use Rattle.vector.specs.Rows.{lane_row}
 use Rattle.vector.proofs.Words.{by_eight}
 use Rattle.tables.proofs.Standing.{and_set}
 use Rattle.masks.specs.Candidates.{met, kept}
-use Rattle.masks.specs.Places.{Candidate, Shows, Recalls, RecallsAll}
+use Rattle.masks.specs.Places.{Shows, Recalls, RecallsAll}
 
 -- what a mask leaves where a later one follows
 pub newer : (count k : ℕ) (z old new : List ℕ) → k < count → z ≡ kept count k old new → z ≡ new

@@ -1,6 +1,6 @@
 -- Looking a nybble up in a table, in each lane.
-use Rattle.std.proofs.Common.{◌≡◌, ℕ, ◌+◌, ◌*◌, ◌/◌, ◌%◌, ◌<◌, cond, ltb, List, sym, refl, ap, ◌∙◌, arith}
-use lib.Bits.{bit_and, and_mask}
+use Rattle.std.proofs.Common.{◌≡◌, ℕ, ◌+◌, ◌*◌, ◌/◌, ◌%◌, ◌<◌, cond, ltb, List, ◌∙◌, arith}
+use lib.Bits.{and_mask}
 use Rattle.std.proofs.lemmas.Bool.Decides.{nat_tests}
 use Rattle.vector.specs.Lanes.{lane, row, splatted, anded, shifted_right_4, shuffled}
 use Rattle.masks.specs.Members.{members}

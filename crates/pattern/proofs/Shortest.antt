@@ -1,6 +1,6 @@
 -- The shortest length is that of no longer pattern, and not 0.
 use Rattle.std.proofs.Common.{ℕ, zero, suc, ◌-◌, ◌^◌, ◌<◌, ◌≤◌, min, List, [], ◌∷◌, length, get_or, fold, arith}
-use Rattle.rules.specs.Book.{Book, count_of, size, shortest, Within}
+use Rattle.rules.specs.Book.{Book, count_of, size, shortest}
 
 below : (ps : List (List ℕ)) (a : ℕ) → fold (λ m p. min m (length p)) a ps ≤ a
 below [] a = omega arith

@@ -1,12 +1,12 @@
 -- The order in which patterns are tried has every id, a preferred one before the others.
 use Rattle.std.proofs.Common.{◌≡◌, ℕ, suc, ◌<◌, cond, eqb, List, [], ◌∷◌, length, get_or, sym, inl, inr, arith}
 use Rattle.std.proofs.lemmas.List.Sums.{sum_by-cons}
-use Rattle.std.proofs.lemmas.Bool.{cases_eq, cases_lt, ne_eqb, cond-false}
+use Rattle.std.proofs.lemmas.Bool.{cases_eq, ne_eqb, cond-false}
 use Rattle.rules.specs.declared.primitives.MatchKind.{MatchKind}
 use Rattle.rules.specs.declared.primitives.MatchKind.TheVariants.{LeftmostFirst, LeftmostLongest}
 use Rattle.rules.specs.Book.{Book, count_of, size, PreferredBy}
 use Rattle.pattern.specs.declared.table.Table.{Table}
-use Rattle.pattern.specs.Order.{times, LongestOrder, ReadingOrder}
+use Rattle.pattern.specs.Order.{times, ReadingOrder}
 use Rattle.pattern.specs.Contents.{contents, longest, entries, order_of, reading, Sound}
 
 -- a number that a list has stands somewhere

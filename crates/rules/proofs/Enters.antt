@@ -1,5 +1,5 @@
 -- One pattern more, entered last.
-use Rattle.std.proofs.Common.{◌≡◌, ℕ, ◌+◌, ◌<◌, ◌≤◌, ◌⊎◌, List, [], ◌∷◌, ◌++◌, length, get_or, Some, None, Option, sym, refl, ap, ◌∙◌, subst, inl, inr, ⊎_elim, arith}
+use Rattle.std.proofs.Common.{◌≡◌, ℕ, ◌+◌, ◌<◌, ◌≤◌, ◌⊎◌, List, [], ◌∷◌, length, Some, None, Option, sym, refl, ap, ◌∙◌, subst, inl, inr, ⊎_elim, arith}
 use Rattle.std.proofs.lemmas.List.{get_or_append_left, length_push, get_or_push}
 use Rattle.std.proofs.lemmas.Bool.{cases_lt, cases_eq}
 use Rattle.std.specs.Option.{option_map}
@@ -7,7 +7,7 @@ use Rattle.rules.specs.declared.primitives.Match.{Match}
 use Rattle.rules.specs.declared.primitives.MatchKind.{MatchKind}
 use Rattle.rules.specs.declared.primitives.MatchKind.TheVariants.{LeftmostFirst, LeftmostLongest}
 use Rattle.rules.specs.Book.{Book, id, count_of, pattern, size, PreferredBy}
-use Rattle.rules.specs.Search.{Stands, OccursAt, id_of, Occurs, Leads, Answers, found}
+use Rattle.rules.specs.Search.{Stands, id_of, Occurs, Leads, Answers, found}
 use Rattle.rules.specs.Entered.{enter, FirstOf, Replaces, Entered}
 use Rattle.rules.proofs.Rule.{same_occurrence, preferred_self, found_answers, found_unique}
 

@@ -1,13 +1,13 @@
 -- The rule of a search has exactly one answer, and `found` is it.
-use Rattle.std.proofs.Common.{◌≡◌, ℕ, zero, suc, ◌+◌, ◌-◌, ◌<◌, ◌≤◌, Bool, true, false, cond, eqb, leb, ◌⊎◌, List, length, get_or, Some, None, Decides, Option, sym, refl, ap, ◌∙◌, subst, inl, inr, ⊎_elim, arith, MatchOption}
+use Rattle.std.proofs.Common.{◌≡◌, ℕ, zero, suc, ◌+◌, ◌-◌, ◌<◌, ◌≤◌, true, false, eqb, leb, List, length, get_or, Some, None, Decides, Option, sym, refl, ap, ◌∙◌, subst, inl, inr, ⊎_elim, arith, MatchOption}
 use Rattle.std.proofs.lemmas.Bool.{cases_lt, cases_eq, cases_Bool, cond-true, cond-false, le-leb, leb-true, leb-false}
 use Rattle.std.proofs.lemmas.Bool.Decides.{Decides-eqb, Decides-and, Decides-below_and, not_from_Decides}
 use Rattle.rules.specs.declared.primitives.Match.{Match}
 use Rattle.rules.specs.declared.primitives.MatchKind.{MatchKind}
 use Rattle.rules.specs.declared.primitives.MatchKind.TheVariants.{LeftmostFirst, LeftmostLongest}
-use Rattle.rules.specs.Book.{Book, id, count_of, pattern, size, PreferredBy, Preferred}
+use Rattle.rules.specs.Book.{Book, count_of, pattern, size, PreferredBy, Preferred}
 use Rattle.rules.specs.Search.{Stands, OccursAt, id_of, Occurs, Leads, Answers, agree, standing, stays, better, choice, hit, hit_or, found_within, found}
-use Rattle.rules.specs.Places.{Chosen, AnswersAt}
+use Rattle.rules.specs.Places.{AnswersAt}
 
 pub same_match : (m o : Match) → id_of m ≡ id_of o → m.start ≡ o.start → m.end ≡ o.end → m ≡ o
 same_match m o p q r i = record { pattern = record { 0 = record { 0 = p i } }; start = q i; end = r i }

@@ -8,9 +8,9 @@ use Rattle.bits.proofs.Clears.{set_rest}
 use Rattle.vector.specs.Lanes.{lane, row}
 use Rattle.vector.specs.Rows.{lane_row}
 use Rattle.rules.specs.Book.{Book, pattern}
-use Rattle.tables.specs.Buckets.{Alike, alike, front, leader, bucket_of}
+use Rattle.tables.specs.Buckets.{Alike, alike, front, leader}
 use Rattle.tables.specs.Masks.{byte_of, marks, low_mask, high_mask}
-use Rattle.tables.specs.Rules.{BucketRule, Bears, Admits, BucketsStand, MasksStand}
+use Rattle.tables.specs.Rules.{Bears, BucketsStand, MasksStand}
 use Rattle.tables.proofs.Fronts.{decides_alike, unlike, leader_same}
 use Rattle.tables.proofs.Marking.{sets}
 

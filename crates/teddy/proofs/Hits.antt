@@ -2,14 +2,13 @@
 use Rattle.std.proofs.Common.{◌≡◌, ℕ, ◌+◌, ◌-◌, ◌*◌, ◌/◌, ◌%◌, ◌<◌, ◌≤◌, true, eqb, List, length, get_or, Some, None, sym, refl, ap, ◌∙◌, subst, arith}
 use Rattle.std.proofs.ByRecursion.{All-get_or, kept_by_passes}
 use Rattle.std.proofs.lemmas.Bool.{eqb-true}
-use Rattle.rules.specs.declared.primitives.Match.{Match}
 use Rattle.rules.specs.Book.{Book, pattern}
 use Rattle.rules.specs.Search.{Stands, OccursAt, Answers, id_of, hit}
 use Rattle.rules.specs.Places.{Chosen}
 use Rattle.rules.proofs.Rule.{settled}
 use Rattle.pattern.specs.declared.book.Book.{Book as Closed}
 use Rattle.pattern.specs.Closed.{book_of, order_in}
-use Rattle.finder.proofs.Choosing.{chosen_first, chosen_none}
+use Rattle.finder.proofs.Choosing.{chosen_first}
 use Rattle.buckets.specs.Buckets.{in_bucket}
 use Rattle.buckets.proofs.Members.{ordered, bucket_known, bucket_all, bucket_preferred}
 use Rattle.pattern.proofs.Shortest.{shortest_le}

@@ -1,6 +1,5 @@
 -- Every place that is sought is a digit of its window's candidates.
 use Rattle.std.proofs.Common.{◌≡◌, ℕ, ◌+◌, ◌-◌, ◌*◌, ◌/◌, ◌%◌, ◌<◌, ◌≤◌, List, subst, arith}
-use Rattle.vector.specs.Lanes.{lane}
 use Rattle.masks.specs.Places.{Candidate, Shows}
 use Rattle.teddy.proofs.Digits.{SetAt}
 

@@ -1,4 +1,4 @@
-use Rattle.std.proofs.Common.{◌≡◌, ℕ, ◌-◌, true, ◌++◌, map, length, take, is_ok, Ok, Err, vec_items, Result, sym, refl, ap, ◌∙◌, arith}
+use Rattle.std.proofs.Common.{◌≡◌, ℕ, ◌-◌, true, ◌++◌, map, take, is_ok, Ok, Err, vec_items, Result, refl, ap, ◌∙◌, arith}
 use Rattle.rules.specs.declared.fault.Refusal.{Refusal}
 use Rattle.rules.specs.Faults.{placed}
 use Rattle.rules.specs.Listing.{listing}

@@ -1,8 +1,7 @@
-use Rattle.std.proofs.Common.{◌≡◌, ℕ, true, ◌⊎◌, List, [], ◌∷◌, ◌++◌, map, length, is_ok, Some, None, Ok, Err, vec_items, Option, sym, refl, ap, ◌∙◌, subst, inl, inr, append_assoc, zero-add, arith}
+use Rattle.std.proofs.Common.{◌≡◌, true, [], ◌∷◌, ◌++◌, map, length, is_ok, Some, Ok, Err, vec_items, sym, ap, ◌∙◌, subst, inl, inr, append_assoc, zero-add, arith}
 use Rattle.std.proofs.lemmas.Result.{err_from_is_err_and}
 use Rattle.rules.specs.declared.fault.Fault.{Fault}
 use Rattle.rules.specs.declared.fault.Refusal.TheVariants.{AfterText}
-use Rattle.rules.specs.Book.{Book}
 use Rattle.rules.specs.Listing.{listing}
 use Rattle.rules.specs.History.{Keeps}
 use Rattle.pattern.specs.Entering.{refused}

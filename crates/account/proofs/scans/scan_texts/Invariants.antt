@@ -1,4 +1,4 @@
-use Rattle.std.proofs.Common.{◌≡◌, ℕ, ◌-◌, ◌≤◌, List, ◌++◌, length, vec_items, vec_len}
+use Rattle.std.proofs.Common.{◌≡◌, ℕ, ◌-◌, List, ◌++◌, length, vec_items, vec_len}
 use Rattle.rules.specs.History.{Keeps}
 use Rattle.intake.specs.Intakes.{model}
 use Rattle.job.specs.Records.{reading}

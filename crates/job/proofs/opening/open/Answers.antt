@@ -1,4 +1,4 @@
-use Rattle.std.proofs.Common.{◌≡◌, min, ltb, length, sym, ap, ◌∙◌, subst, inr, arith, MatchOption}
+use Rattle.std.proofs.Common.{◌≡◌, min, ltb, length, ap, ◌∙◌, subst, inr, MatchOption}
 use Rattle.std.proofs.lemmas.Result.{err_from_is_err_and}
 use Rattle.std.proofs.lemmas.Bool.{cond-false, le-ltb}
 use Rattle.rules.specs.Book.{shortest}

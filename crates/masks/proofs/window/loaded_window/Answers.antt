@@ -1,8 +1,8 @@
-use Rattle.std.proofs.Common.{◌≡◌, ℕ, ◌+◌, ◌<◌, ◌≤◌, List, sym, ap, ◌∙◌, subst, ⊎_elim, arith}
-use Rattle.vector.specs.Lanes.{lane, loaded}
+use Rattle.std.proofs.Common.{◌≡◌, ℕ, ◌+◌, ◌<◌, ◌≤◌, List, sym, subst, ⊎_elim, arith}
+use Rattle.vector.specs.Lanes.{loaded}
 use Rattle.tables.specs.Rules.{Admits}
-use Rattle.masks.specs.Members.{members, admitted}
-use Rattle.masks.specs.Candidates.{met, kept}
+use Rattle.masks.specs.Members.{members}
+use Rattle.masks.specs.Candidates.{kept}
 use Rattle.masks.specs.Places.{Shows, Recalls}
 use Rattle.masks.proofs.Exact.{Sees, newer, shows, recalls}
 use Rattle.masks.proofs.Loaded.{sees}

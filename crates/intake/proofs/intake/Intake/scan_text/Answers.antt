@@ -1,4 +1,4 @@
-use Rattle.std.proofs.Common.{◌≡◌, ℕ, ◌+◌, ◌-◌, ◌<◌, length, get_or, take, Ok, Err, sym, refl, ap, ◌∙◌, subst, arith}
+use Rattle.std.proofs.Common.{◌≡◌, ◌+◌, ◌-◌, ◌<◌, length, get_or, take, Ok, Err, sym, refl, ap, ◌∙◌, subst, arith}
 use native.Mathlib.Nat.{sub-zero}
 use Rattle.std.specs.List.{AllByRecursion as All}
 use Rattle.std.proofs.lemmas.Result.{err_from_is_err_and}
@@ -7,7 +7,7 @@ use Rattle.rules.specs.Search.{id_of}
 use Rattle.rules.specs.Listing.{listing}
 use Rattle.rules.specs.Ledger.{hits_with}
 use Rattle.rules.proofs.Listings.{rest_short}
-use Rattle.intake.specs.Tallies.{tallies, sum}
+use Rattle.intake.specs.Tallies.{tallies}
 use Rattle.intake.specs.Intakes.{Scans}
 use Rattle.intake.proofs.Histories.{serves_scan, scan_refused}
 use Rattle.intake.proofs.Scans.{Accepted, accepted_at, hits_front, listing_ids}

@@ -1,4 +1,4 @@
-use Rattle.std.proofs.Common.{◌≡◌, ◌+◌, ◌-◌, ◌≤◌, length}
+use Rattle.std.proofs.Common.{◌≡◌, ◌+◌, length}
 use Rattle.rules.specs.Listing.{rest, listing}
 use Rattle.intake.proofs.intake.scans.count_hits.Given as goal
 

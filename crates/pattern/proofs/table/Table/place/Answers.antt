@@ -1,4 +1,4 @@
-use Rattle.std.proofs.Common.{◌≡◌, ℕ, ◌<◌, ◌≤◌, length, get_or, vec_len, sym, ap, ◌∙◌, subst, inl, inr, eq-or-lt_of_le, arith, below_more}
+use Rattle.std.proofs.Common.{◌≡◌, ◌<◌, get_or, vec_len, sym, ap, ◌∙◌, inl, inr, eq-or-lt_of_le, arith, below_more}
 use Rattle.rules.specs.Book.{size}
 use Rattle.pattern.specs.Contents.{contents, longest}
 use Rattle.pattern.proofs.Lookups.{length-longest, count_is, id_at, size_at}

@@ -1,8 +1,8 @@
-use Rattle.std.proofs.Common.{◌≡◌, ℕ, ◌+◌, ◌*◌, ◌/◌, ◌%◌, ◌^◌, ◌<◌, ◌≤◌, List, length, get_or, take, sym, ap, ◌∙◌, arith}
+use Rattle.std.proofs.Common.{◌≡◌, ℕ, ◌*◌, ◌/◌, ◌%◌, ◌^◌, ◌<◌, ◌≤◌, length, get_or, take, ap, ◌∙◌, arith}
 use lib.Bits.{bit_or}
 use Rattle.std.proofs.lemmas.Nat.{one_shl}
 use Rattle.std.proofs.lemmas.List.{length-map, take_all}
-use Rattle.rules.specs.Book.{count_of, pattern}
+use Rattle.rules.specs.Book.{pattern}
 use Rattle.pattern.specs.Order.{number}
 use Rattle.pattern.specs.Closed.{book_of, order_in}
 use Rattle.finder.proofs.Choosing.{read}

@@ -1,15 +1,13 @@
-use Rattle.std.proofs.Common.{◌≡◌, ℕ, ◌+◌, ◌-◌, ◌*◌, ◌/◌, ◌%◌, ◌<◌, ◌≤◌, ◌⊎◌, List, map, length, get_or, Some, None, sym, ap, ◌∙◌, subst, inl, inr, ⊎_elim, arith, below_more}
+use Rattle.std.proofs.Common.{◌≡◌, ℕ, ◌+◌, ◌-◌, ◌*◌, ◌/◌, ◌%◌, ◌<◌, ◌≤◌, length, get_or, Some, None, sym, ap, ◌∙◌, subst, inl, inr, ⊎_elim, arith, below_more}
 use Rattle.std.proofs.lemmas.Bool.{cases_lt}
 use Rattle.std.proofs.lemmas.List.{length-map}
 use Rattle.rules.specs.Book.{pattern}
 use Rattle.rules.specs.Search.{Stands, hit}
 use Rattle.rules.proofs.Rule.{found_unique}
 use Rattle.pattern.specs.Order.{number}
-use Rattle.pattern.specs.declared.book.Book.{Book as Closed}
 use Rattle.rabinkarp.specs.Searched.{shared}
 use Rattle.pattern.proofs.Shortest.{shortest_le}
 use Rattle.finder.proofs.Choosing.{read}
-use Rattle.bits.specs.Digits.{IsSet}
 use Rattle.buckets.specs.Buckets.{in_bucket}
 use Rattle.tables.specs.Rules.{Admits}
 use Rattle.masks.specs.Places.{Candidate, Shows, RecallsAll}

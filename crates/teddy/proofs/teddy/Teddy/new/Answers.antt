@@ -1,11 +1,10 @@
-use Rattle.std.proofs.Common.{◌≡◌, ℕ, ◌<◌, min, max, sym, ap, ◌∙◌, subst, arith}
+use Rattle.std.proofs.Common.{◌≡◌, ℕ, ◌<◌, ◌∙◌, subst, arith}
 use Rattle.pattern.specs.declared.book.Book.{Book as Closed}
 use Rattle.pattern.specs.Closed.{book_of, order_in}
 use Rattle.rabinkarp.specs.Searched.{shared}
 use Rattle.pattern.proofs.Shortest.{shortest_pos}
 use Rattle.buckets.specs.Buckets.{members, in_bucket}
 use Rattle.tables.specs.declared.mask.MaskTable.{MaskTable}
-use Rattle.tables.specs.Buckets.{front}
 use Rattle.tables.specs.Masks.{low_mask, high_mask}
 use Rattle.teddy.specs.Held.{nearest}
 use Rattle.teddy.proofs.Hits.{key_of}
