@@ -1,6 +1,6 @@
 -- What a bucket of a book has: ids of the book, each whose key it is, a preferred one before the others.
 use Rattle.std.proofs.Common.{◌≡◌, ℕ, zero, suc, ◌<◌, Bool, true, cond, eqb, List, [], ◌∷◌, length, get_or, filter, sym, refl, ap, ◌∙◌, subst, inl, inr, arith}
-use Rattle.std.specs.List.{AllByRecursion as All}
+use Rattle.std.specs.List.{AllByRecursion}
 use Rattle.std.proofs.ByRecursion.{All-get_or, All-from_get_or, all_kept_by}
 use Rattle.std.proofs.lemmas.Bool.{cases_Bool, eq-eqb, cond-true, cond-false}
 use Rattle.rules.specs.Book.{count_of, Preferred}
@@ -14,7 +14,7 @@ use Rattle.buckets.specs.Buckets.{in_bucket}
 Pairs : (ℕ → ℕ → Type 0) → List ℕ → Type 0
 Pairs R xs = (i j : ℕ) → i < j → j < length xs → R (get_or xs i 0) (get_or xs j 0)
 
-pairs-cons : (R : ℕ → ℕ → Type 0) (x : ℕ) (ys : List ℕ) → All (R x) ys → Pairs R ys → Pairs R (x ∷ ys)
+pairs-cons : (R : ℕ → ℕ → Type 0) (x : ℕ) (ys : List ℕ) → AllByRecursion (R x) ys → Pairs R ys → Pairs R (x ∷ ys)
 unfolding Pairs
 pairs-cons R x ys a h zero zero lt l = absurd (omega arith)
 pairs-cons R x ys a h zero (suc j) lt l = All-get_or (R x) ys j 0 (omega arith) a

@@ -1,6 +1,6 @@
 -- One scan, and the ledger's texts.
 use Rattle.std.proofs.Common.{◌≡◌, ℕ, ◌+◌, ◌<◌, ◌≤◌, ltb, leb, List, length, get_or, take, drop, replicate, Ok, Err, Result, sym, refl, ap, ◌∙◌, subst, ⊎_elim, arith}
-use Rattle.std.specs.List.{AllByRecursion as All}
+use Rattle.std.specs.List.{AllByRecursion}
 use Rattle.std.proofs.ByRecursion.{All-weaker}
 use Rattle.std.proofs.lemmas.List.{take_at, length_push, get_or-replicate, get_or_past}
 use Rattle.std.proofs.lemmas.List.Sums.{sum_by_push}
@@ -67,7 +67,7 @@ placed_ok at k (Err f) e = absurd (let z : ◌≡◌ {A = ℕ} 0 1 = cc in omega
 pub accepted_at : (at : ℕ) (b : Book) (n : ℕ) (t : List ℕ) (room k : ℕ) → Ok k ≡ placed at (scan_answer b n t room) → Accepted b n t room k
 accepted_at at b n t room k e = accepted b n t room k (placed_ok at k (scan_answer b n t room) e)
 
-pub listing_ids : (b : Book) (t : List ℕ) → Within b → All (λ m. id_of m < 1024) (listing b t)
+pub listing_ids : (b : Book) (t : List ℕ) → Within b → AllByRecursion (λ m. id_of m < 1024) (listing b t)
 listing_ids b t w = All-weaker (Occurs b t) (λ m. id_of m < 1024) (λ m h. omega (arith, h.here.known, w.few)) (listing b t) (listing_covers b w t).occur
 
 pub keeps_none : (b : Book) (m : Model) → m.book ≡ b → m.accepted ≡ 0 → m.tallies ≡ replicate 1024 0 → Keeps (starts b) m

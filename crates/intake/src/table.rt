@@ -1,5 +1,5 @@
 ghost use Rattle.std.specs.Prelude.{◌≡◌, ℕ, ◌+◌, ◌^◌, ◌<◌, ◌≤◌, length, replicate, slice_index, slice_set};
-ghost use Rattle.std.specs.List.{AllByRecursion as All};
+ghost use Rattle.std.specs.List.{AllByRecursion};
 ghost use Rattle.rules.specs.Search.{id_of};
 ghost use Rattle.rules.specs.Ledger.{hits_with};
 ghost use Rattle.intake.specs.Tallies.{tallies, sum};
@@ -61,7 +61,7 @@ impl Table {
     // Raises the tally of each hit.
     pub(crate) fn raise_all(&mut self, hits: &[Match])
         requires sized { length (tallies self.old) ≡ 1024 }
-        requires known { All (λ m. id_of m < 1024) hits.now }
+        requires known { AllByRecursion (λ m. id_of m < 1024) hits.now }
         requires room { sum (tallies self.old) + length hits.now < 2 ^ 32 }
         ensures len { length (tallies self.new) ≡ 1024 }
         ensures total { sum (tallies self.new) ≡ sum (tallies self.old) + length hits.now }

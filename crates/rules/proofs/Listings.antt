@@ -1,6 +1,6 @@
 -- The listing of a text: there is one, and what its hits cover.
 use Rattle.std.proofs.Common.{◌≡◌, ℕ, zero, suc, ◌+◌, ◌-◌, ◌<◌, ◌≤◌, List, [], ◌∷◌, length, get_or, Some, None, Option, sym, refl, subst, ⊎_elim, arith}
-use Rattle.std.specs.List.{AllByRecursion as All}
+use Rattle.std.specs.List.{AllByRecursion}
 use Rattle.std.proofs.lemmas.Bool.{cases_lt}
 use Rattle.rules.specs.declared.primitives.Match.{Match}
 use Rattle.rules.specs.Book.{Book, Within}
@@ -72,7 +72,7 @@ module _ (b : Book) (w : Within b) (t : List ℕ) where
   pub rest_short : (at : ℕ) → length (rest b t at) ≤ length t - at
   rest_short at = lists_short at (rest b t at) (lists_rest at)
 
-  lists_occur : (at : ℕ) (ms : List Match) → Lists b t at ms → All (Occurs b t) ms
+  lists_occur : (at : ℕ) (ms : List Match) → Lists b t at ms → AllByRecursion (Occurs b t) ms
   lists_occur at [] h = tt
   lists_occur at (m ∷ ms) h = ((found_some b t at m h.0).0, lists_occur m.end ms h.1)
 

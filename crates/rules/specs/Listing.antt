@@ -3,7 +3,7 @@
 -- BeginsIn o m     the occurrence o begins inside the hit m
 -- Covers b t ms     the hits ms are occurrences, lie apart, and every occurrence begins inside one
 use Rattle.std.specs.Prelude.{◌≡◌, ℕ, zero, suc, ◌-◌, ◌<◌, ◌≤◌, ◌↔◌, List, [], ◌∷◌, length, get_or, Some, None, slice_index_or}
-use Rattle.std.specs.List.{AllByRecursion as All}
+use Rattle.std.specs.List.{AllByRecursion}
 use Rattle.rules.specs.declared.primitives.Match.{Match}
 use Rattle.rules.specs.Book.{Book}
 use Rattle.rules.specs.Search.{Occurs, found}
@@ -28,7 +28,7 @@ abbrev pub BeginsIn : Match → Match → Type 0
 BeginsIn o m = (m.start ≤ o.start) × (o.start < m.end)
 
 pub record Covers (b : Book) (t : List ℕ) (ms : List Match) : Type 0 where
-  pub occur : All (Occurs b t) ms
+  pub occur : AllByRecursion (Occurs b t) ms
   pub apart : (i j : ℕ) (d : Match) → i < j → j < length ms → (get_or ms i d).end ≤ (get_or ms j d).start
   pub inside : (o : Match) → Occurs b t o → (k : ℕ) × (k < length ms) × BeginsIn o (slice_index_or ms k o)
   pub none : (ms ≡ []) ↔ ((o : Match) → Occurs b t o → ⊥)

@@ -1,6 +1,6 @@
 use Rattle.std.proofs.Common.{◌≡◌, ◌+◌, ◌<◌, List, [], ◌∷◌, ◌++◌, map, length, get_or, take, drop, vec_items, vec_len, sym, refl, ap, ◌∙◌, subst, append-nil, arith}
 use Rattle.std.specs.Vec.Iter.{into_iter_items}
-use Rattle.std.specs.List.{AllByRecursion as All}
+use Rattle.std.specs.List.{AllByRecursion}
 use Rattle.std.proofs.ByRecursion.{All-push}
 use Rattle.std.proofs.lemmas.List.{length-drop, length-map, length-take-le, map_push, take_more, drop_more, take_all}
 use Rattle.rules.specs.History.{Event}
@@ -21,7 +21,7 @@ loop-call-init g c =
       ap (λ n. drop n all) none,
       omega arith,
       omega (arith, made.capacity, c.len.ensures, ap length c.into_iter-rest.ensures.rest, c.args.calls.ok.0),
-      subst (All Outside) (sym made.items) tt,
+      subst (AllByRecursion Outside) (sym made.items) tt,
       λ p s.
           subst (λ n. Serves g.F.Finder.book (following p (pairs (map asks (take n all)) (map tell (vec_items c.in-Ok.replies)))) c.args.intake.now) (sym none)
           (subst (λ (es : List Event). Serves g.F.Finder.book (record { first = p.first; events = es }) c.args.intake.now) (sym (append-nil p.events)) s),
@@ -63,7 +63,7 @@ loop-call-preserved g c =
       ap (λ k. drop k all) up ∙ same.1,
       omega (arith, up, in_all g at),
       omega (arith, c.push_reserved.ensures.capacity, i.3),
-      subst (All Outside) (sym c.push_reserved.ensures.items) (All-push Outside old c.serve.result i.4 c.serve.ensures.outside),
+      subst (AllByRecursion Outside) (sym c.push_reserved.ensures.items) (All-push Outside old c.serve.result i.4 c.serve.ensures.outside),
       λ p s. one_more (λ q. Serves g.F.Finder.book q c.loop-call.intake) (λ q. Serves g.F.Finder.book q c.serve.new.intake) p _ _ (asks call) (tell c.serve.result) more c.serve.ensures.served (i.5 p s),
     )
 

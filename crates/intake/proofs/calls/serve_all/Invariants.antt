@@ -1,6 +1,6 @@
 use Rattle.std.proofs.Common.{◌≡◌, ◌≤◌, map, length, take, drop, vec_items, vec_len, vec_capacity}
 use Rattle.std.specs.Vec.Iter.{into_iter_items}
-use Rattle.std.specs.List.{AllByRecursion as All}
+use Rattle.std.specs.List.{AllByRecursion}
 use Rattle.rules.specs.History.{Past}
 use Rattle.intake.specs.Calls.{asks, tell, pairs, following, Outside}
 use Rattle.intake.specs.Intakes.{Serves}
@@ -12,7 +12,7 @@ invariant-loop-call g l =
     × (drop (vec_len l.replies) (into_iter_items l.initial.rest) ≡ into_iter_items l.rest)
     × (vec_len l.replies ≤ length (into_iter_items l.initial.rest))
     × (length (into_iter_items l.initial.rest) ≤ vec_capacity l.replies)
-    × All Outside (vec_items l.replies)
+    × AllByRecursion Outside (vec_items l.replies)
     × ((p : Past) → Serves g.F.Finder.book p l.initial.intake → Serves g.F.Finder.book (following p (pairs (map asks (take (vec_len l.replies) (into_iter_items l.initial.rest))) (map tell (vec_items l.replies)))) l.intake)
 
 abbrev pub decreases-loop-call : goal.decreases-loop-call
