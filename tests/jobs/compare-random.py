@@ -1,7 +1,7 @@
 #!/usr/bin/env python3
 """Runs random jobs through pnscan and through another program with the same input and output, and compares what they print.
 
-    tests/jobs/compare-random.py PROGRAM [COUNT [SEED]]     from the repository's root, after `rt check pnscan`
+    tests/jobs/compare-random.py PROGRAM [COUNT [SEED]]     from the repository's root, after `./pnscan examples/lamps.job`, which builds it
 
 PROGRAM is a command that reads a job on standard input, such as `build/oracle-release pnscan`, a pnscan over the Rust
 searchers. Patterns and texts are drawn from few letters, so that hits, overlaps and equal hashes are common; one job in four
@@ -12,7 +12,7 @@ import shlex
 import subprocess
 import sys
 
-OURS = ['target/bin/pnscan']
+OURS = ['crates/pnscan/out/pnscan']
 
 
 def record(mark, body=b''):

@@ -23,19 +23,18 @@ put() {
     echo "$1: $crates" >>"$tmp/crates.txt"
 }
 
-mkdir -p "$tmp/crates" "$tmp/target/rlib" "$tmp/target/stamp"
+# What a check keeps (out/) need not come along: rt finds what earlier checks on this machine kept of the same crates.
 for c in $crates; do
-    cp -R "$root/crates/$c" "$tmp/crates/$c"
-    grep "^$c:" "$root/crates.txt" >>"$tmp/crates.txt"
-    # What an earlier check has proved need not be proved again: rt goes by the stamp.
-    for kept in "rlib/$c.rlib" "stamp/$c"; do
-        [ ! -e "$root/target/$kept" ] || cp -R "$root/target/$kept" "$tmp/target/$kept"
+    mkdir -p "$tmp/crates/$c"
+    for part in src specs proofs; do
+        [ ! -d "$root/crates/$c/$part" ] || cp -R "$root/crates/$c/$part" "$tmp/crates/$c/$part"
     done
+    grep "^$c:" "$root/crates.txt" >>"$tmp/crates.txt"
 done
 twin=$(cat "$here/twin.rt.txt")
 put twin "$twin"
 cd "$tmp"
-rt check twin >twin.out 2>&1 || { tail -n 5 twin.out >&2; fail "the twin does not pass"; }
+(cd crates/twin && rt check) >twin.out 2>&1 || { tail -n 5 twin.out >&2; fail "the twin does not pass"; }
 
 n=0
 for edit in "$here"/*.edit; do
@@ -45,7 +44,7 @@ for edit in "$here"/*.edit; do
     error=$(sed -n 's/^error: //p' "$edit")
     [ "$(grep -cF -- "$old" "$here/twin.rt.txt")" = 1 ] || fail "$name: the old text does not stand in one line of the twin"
     put "$name" "${twin/"$old"/"$new"}"
-    if rt dev "$name" >"$name.out" 2>&1; then
+    if (cd "crates/$name" && rt check) >"$name.out" 2>&1; then
         fail "$name passes"
     fi
     [ "$(grep -o 'error\[[a-z0-9-]*\]' "$name.out")" = "error[$error]" ] || { grep 'error' "$name.out" >&2; fail "$name: not turned away by $error alone"; }
