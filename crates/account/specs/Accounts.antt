@@ -4,7 +4,7 @@
 -- ended b n is s         the fault of that one, or else the fault s with which reading stops
 -- lines_of b n ts        the hits of the texts ts, numbered from n on
 -- Noted                  what scanning one text did
--- TextsServed           what scanning all texts that are left to read did
+-- TextsServed            what scanning all texts that are left to read did
 -- Summed b ts s          the summary s is that of the texts ts: their number, and each pattern's hits in them
 -- Accounts job ls end    the account of a job: its lines, and the summary or the fault at its end
 use Rattle.std.specs.Prelude.{◌≡◌, ℕ, suc, ◌<◌, true, cond, ◌⊎◌, List, [], ◌∷◌, ◌++◌, map, length, is_ok, Some, None, Ok, Err, vec_items, codes, decimal, Option, Result, MatchResult, slice_index}

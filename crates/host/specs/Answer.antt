@@ -3,7 +3,7 @@
 -- answer job place x      the hit, or else the number that is answered instead of it
 -- code d                  the number that the answer d has: 0 for a hit
 -- after d old             the bytes of the buffer then: those of the hit, else the old ones
--- SmallAnswer d          the numbers of a hit are small, so that four bytes hold each
+-- SmallAnswer d           the numbers of a hit are small, so that four bytes hold each
 -- Replies x d r old new   the number r, and a buffer that held old and then new, are those of the answer d; a call in order may
 --                         also meet want of memory, which has the number 103 and writes nothing
 use Rattle.std.specs.Prelude.{◌≡◌, ℕ, true, cond, ◌⊎◌, List, is_some, Some, None, Ok, Err, Option, Result, ◌==◌}

@@ -5,9 +5,9 @@
 -- in_text b t place      what the search of a text comes to
 -- in_book d x t place    the same, where closing the book answered d and the searcher x is used
 -- outcome job place x    what the search of a job's first text comes to, or else the first refusal up to that text
--- TurnedDown d e        the fault e has the refusal of the defined answer d, or is want of memory
+-- TurnedDown d e         the fault e has the refusal of the defined answer d, or is want of memory
 -- Small m                the id, the start and the end of a match are those of a book and a text within the bounds
--- SmallHit r            that of the hit, if the search came to one
+-- SmallHit r             that of the hit, if the search came to one
 use Rattle.std.specs.Prelude.{◌≡◌, ℕ, ◌<◌, ◌≤◌, cond, ◌⊎◌, List, [], ◌∷◌, Some, None, Ok, Err, Option, Result}
 use Rattle.rules.specs.declared.fault.Fault.{Fault}
 use Rattle.rules.specs.declared.fault.Refusal.{Refusal}

@@ -4,7 +4,7 @@
 -- written e       a record: its mark, its length in two bytes, low byte first, and its bytes
 -- job_of es       the job of the records es
 -- items_of at es  the records es, where the first one's mark stands at a place
--- ReadsBack      a job that is records in a row, each of at most 65,535 bytes, reads as those records, with their places, up to its end
+-- ReadsBack       a job that is records in a row, each of at most 65,535 bytes, reads as those records, with their places, up to its end
 use Rattle.std.specs.Prelude.{◌≡◌, ℕ, ◌+◌, ◌/◌, ◌%◌, ◌<◌, List, [], ◌∷◌, ◌++◌, length, None, codes}
 use Rattle.std.specs.List.{AllByRecursion}
 use Rattle.job.specs.Format.{Entry, pattern, first, longest, text}

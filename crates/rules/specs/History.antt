@@ -6,7 +6,7 @@
 -- then p a t       the past p, and then the call a that came back with t
 -- state p          the ledger's state after the past p
 -- Covered b a t    the hits that an accepted text's list begins with cover the text
--- ToldSo s es     each event told what the ledger tells, and its hits cover its text under the book in force
+-- ToldSo s es      each event told what the ledger tells, and its hits cover its text under the book in force
 -- Model            what an intake holds
 -- used_by m        how many of its texts count against the limit of 65,535
 -- tally_in m i     what a call for the tally of the pattern i answers

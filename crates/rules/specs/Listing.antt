@@ -1,6 +1,6 @@
 -- Lists b t at ms   ms are the hits of t from the place at: a search from there, then from each hit's end, until there is none
 -- listing b t       the hits that are listed of a text
--- BeginsIn o m     the occurrence o begins inside the hit m
+-- BeginsIn o m      the occurrence o begins inside the hit m
 -- Covers b t ms     the hits ms are occurrences, lie apart, and every occurrence begins inside one
 use Rattle.std.specs.Prelude.{◌≡◌, ℕ, zero, suc, ◌-◌, ◌<◌, ◌≤◌, ◌↔◌, List, [], ◌∷◌, length, get_or, Some, None, slice_index_or}
 use Rattle.std.specs.List.{AllByRecursion}

@@ -4,12 +4,12 @@
 --   row n f               the lanes f 0, f 1, .. f (n - 1)
 --   splatted n b          b in every lane
 --   loaded n s p          the bytes of s from the place p on; 0 past its end
---   all_zero xs            whether all lanes are 0
+--   all_zero xs           whether all lanes are 0
 --   anded n xs ys         lane by lane, the bits that both have
 --   ored n xs ys          lane by lane, the bits that one of them has
 --   compared n xs ys      255 where the lanes are equal, and 0 elsewhere
---   shifted_right_4 n xs    each lane divided by 16
---   shifted_in k n xs ys   the last k lanes of ys, then the first of xs
+--   shifted_right_4 n xs  each lane divided by 16
+--   shifted_in k n xs ys  the last k lanes of ys, then the first of xs
 --   shuffled n xs js      each lane of js, as an index into its own sixteen lanes of xs
 --   number n xs p         the n lanes from p on as one number, low byte first
 --   lane64 xs k           the k-th eight lanes as one number
