@@ -1,5 +1,10 @@
-ghost use Rattle.std.specs.Prelude.{MatchBool};
-ghost use Rattle.rules.specs.Search.{Stands};
+ghost use Rattle.std.specs.Prelude.{◌≡◌, MatchBool, MatchOption};
+ghost use Rattle.rules.specs.Book.{pattern};
+ghost use Rattle.rules.specs.Search.{Stands, hit};
+ghost use Rattle.pattern.specs.Closed.{book_of};
+
+use pattern::book::Book;
+use rules::primitives::{Match, PatternID};
 
 /// Whether the bytes of a pattern stand in a text from a place on.
 pub fn stands(pattern: &[u8], text: &[u8], start: usize) -> bool
@@ -14,4 +19,19 @@ pub fn stands(pattern: &[u8], text: &[u8], start: usize) -> bool
         }
     }
     true
+}
+
+/// The match of a pattern at a place, if its bytes stand there.
+pub fn verify(book: &Book, id: PatternID, text: &[u8], start: usize) -> Option<Match>
+    ensures { MatchOption result (Stands (pattern (book_of book.now) id.0.0) text.now start → ⊥) (λ m. Stands (pattern (book_of book.now) id.0.0) text.now start × (m ≡ hit (book_of book.now) id.0.0 start)) }
+{
+    let pattern = book.get(id);
+    if !stands(pattern, text, start) {
+        return None;
+    }
+    Some(Match {
+        pattern: id,
+        start,
+        end: start + pattern.len(),
+    })
 }

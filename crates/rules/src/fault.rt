@@ -5,11 +5,11 @@ ghost use Rattle.rules.specs.Refusals.{number, layer, line};
 use std::alloc::{AllocError, AllocFailed};
 use std::fmt;
 
-/// Why a call was refused.
+/// Why a call was refused. The discriminants are the numbers of the fault line.
 #[derive(Clone, Copy, PartialEq, Eq, Debug)]
 pub enum Refusal {
     /// The pattern has no bytes.
-    EmptyPattern,
+    EmptyPattern = 1,
     /// 1,024 patterns are in.
     TooManyPatterns,
     /// The patterns would have more than 16,384 bytes together.
@@ -37,7 +37,7 @@ pub enum Refusal {
     /// A pattern or kind record comes after a text.
     AfterText,
     /// There is no memory.
-    Memory,
+    Memory = 0,
 }
 
 impl Refusal {
@@ -45,23 +45,7 @@ impl Refusal {
     pub fn number(self) -> u8
         ensures { result ≡ number self }
     {
-        match self {
-            Refusal::EmptyPattern => 1,
-            Refusal::TooManyPatterns => 2,
-            Refusal::TooManyBytes => 3,
-            Refusal::NoPatterns => 4,
-            Refusal::BadMaskCount => 5,
-            Refusal::TextTooLong => 6,
-            Refusal::TooManyTexts => 7,
-            Refusal::HitsTooShort => 8,
-            Refusal::UnknownPattern => 9,
-            Refusal::JobTooLong => 10,
-            Refusal::Truncated => 11,
-            Refusal::UnknownMark => 12,
-            Refusal::KindLength => 13,
-            Refusal::AfterText => 14,
-            Refusal::Memory => 0,
-        }
+        self as u8
     }
 
     /// The layer that refused: 1 the book, 2 the intake, 3 the job, 0 the memory.
@@ -73,6 +57,16 @@ impl Refusal {
             1..=5 => 1,
             6..=9 => 2,
             _ => 3,
+        }
+    }
+
+    /// The refusal at a place of a job, or at 0 outside one.
+    pub fn at(self, place: usize) -> Fault
+        ensures { result ≡ record { refusal = self; place = place } }
+    {
+        Fault {
+            refusal: self,
+            place,
         }
     }
 }
@@ -88,10 +82,7 @@ impl From<AllocError> for Fault {
     ghost from_gives = { λ _ r. r ≡ record { refusal = Memory; place = 0 } };
 
     fn from(_e: AllocError) -> Fault {
-        Fault {
-            refusal: Refusal::Memory,
-            place: 0,
-        }
+        Refusal::Memory.at(0)
     }
 }
 
@@ -99,10 +90,7 @@ impl<T: Drop> From<AllocFailed<T>> for Fault {
     ghost from_gives = { λ _ r. r ≡ record { refusal = Memory; place = 0 } };
 
     fn from(_e: AllocFailed<T>) -> Fault {
-        Fault {
-            refusal: Refusal::Memory,
-            place: 0,
-        }
+        Refusal::Memory.at(0)
     }
 }
 
