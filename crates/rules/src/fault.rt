@@ -52,6 +52,7 @@ impl Refusal {
     pub fn layer(self) -> u8
         ensures { result ≡ layer self }
     {
+        // By numbers, since those of a layer stand in a row: by names this would be fifteen cases.
         match self.number() {
             0 => 0,
             1..=5 => 1,

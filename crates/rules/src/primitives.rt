@@ -13,14 +13,14 @@ impl PatternID {
     /// The greatest index that an id can have.
     pub const MAX: usize = 2147483646;
 
+    /// The id of the pattern that was entered first.
+    pub const ZERO: PatternID = PatternID(SmallIndex(0));
+
     /// The id with an index, or none where the index is above `PatternID::MAX`.
     pub fn new(index: usize) -> Option<PatternID>
         ensures { result ≡ (if nat_le index 2147483646 then Some (id index) else None) }
     {
-        if index > Self::MAX {
-            return None;
-        }
-        Some(PatternID(SmallIndex(index as u32)))
+        (index <= Self::MAX).then(|| PatternID(SmallIndex(index as u32)))
     }
 
     /// The index, for a look-up in a table.
@@ -28,6 +28,15 @@ impl PatternID {
         ensures { result ≡ self.0.0 }
     {
         self.0.0 as usize
+    }
+}
+
+impl From<u16> for PatternID {
+    ghost from_gives = { λ n r. r ≡ id n };
+
+    /// The id with an index: every `u16` is one, and the ids of a book are below 1,024.
+    fn from(index: u16) -> PatternID {
+        PatternID(SmallIndex(index.into()))
     }
 }
 
