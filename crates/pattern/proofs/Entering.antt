@@ -1,15 +1,17 @@
 -- The table with one pattern more, put into the longest order behind all that are at least as long.
-use Rattle.std.proofs.Common.{◌≡◌, ℕ, ◌+◌, ◌-◌, ◌^◌, ◌<◌, ◌≤◌, min, cond, eqb, ◌⊎◌, List, [], ◌∷◌, ◌++◌, map, length, get_or, take, drop, sym, refl, ap, ◌∙◌, subst, inl, inr, eq-or-lt_of_le, mul-zero, arith}
+use Rattle.std.proofs.Common.{◌≡◌, ℕ, ◌+◌, ◌-◌, ◌^◌, ◌<◌, ◌≤◌, min, cond, eqb, ◌⊎◌, List, [], ◌∷◌, ◌++◌, true, false, leb, map, length, get_or, take, drop, vec_items, vec_len, sym, refl, ap, ◌∙◌, subst, inl, inr, eq-or-lt_of_le, mul-zero, arith}
 use Rattle.std.specs.List.{insert}
-use Rattle.std.proofs.lemmas.List.{get_or_append_left, get_or_push, length_push, take-map, drop-map, map-append}
+use Rattle.std.specs.List.Sorted.{IsPartitionPoint, IsPartitionedBy}
+use Rattle.std.proofs.lemmas.List.{get_or-map, get_or_append_left, get_or_push, length-map, length_push, take-map, drop-map, map-append}
 use Rattle.std.proofs.lemmas.List.Edits.{length-insert, get_or-insert_below, get_or-insert_at, get_or-insert_above}
 use Rattle.std.proofs.lemmas.List.Sums.{sum_by-append, sum_by-cons, sum_by-take-drop, sum_by_push, fold_push}
 use Rattle.std.proofs.ByRecursion.{sum_by_le, All-from_get_or}
-use Rattle.std.proofs.lemmas.Bool.{cases_eq, cases_lt, ne_eqb, eq-eqb, cond-false, cond-true}
+use Rattle.std.proofs.lemmas.Bool.{cases_eq, cases_lt, ne_eqb, eq-eqb, cond-false, cond-true, leb-true, leb-false, le-leb}
 use Rattle.rules.specs.Book.{Book, count_of, size, total, shortest, Within}
 use Rattle.rules.specs.Entered.{enter}
 use Rattle.pattern.specs.declared.table.Table.{Table}
-use Rattle.pattern.specs.Order.{times, LongestOrder}
+use Rattle.pattern.specs.Order.{number, times, LongestOrder}
+use Rattle.pattern.proofs.Lookups.{length-longest, id_at}
 use Rattle.pattern.specs.Contents.{contents, longest, entries, Sound}
 
 pub map_inserted : {X Y : Type 0} (f : X → Y) (xs : List X) (i : ℕ) (x : X) → map f (insert xs i x) ≡ insert (map f xs) i (f x)
@@ -132,15 +134,29 @@ entered_within b p w some few short =
       short = omega (arith, sum_by_push length b.patterns p);
     }
 
+-- in the longest order no pattern of n bytes or more stands behind a shorter one
+pub parted : (t : Table) (n : ℕ) → Sound t → IsPartitionedBy (λ i. leb n (size (contents t) (number i))) (vec_items t.order)
+parted t n s i j d le h e =
+    let ids = vec_items t.order in
+    let at = get_or-map number ids in
+    elim (eq-or-lt_of_le le) [
+      | inl q ↦ subst (λ k. leb n (size (contents t) (number (get_or ids k d))) ≡ true) (sym q) e
+      | inr lt ↦ le-leb n _ (omega (arith, leb-true n _ e, s.ordered.falling i j lt (omega (arith, length-map ids number)), ap (size (contents t)) (at i d 0 (omega arith)), ap (size (contents t)) (at j d 0 h)))
+    ]
+
 -- the table with one pattern more
-pub entered_sound : (t u : Table) (p : List ℕ) (at : ℕ) → Sound t → 0 < length p → count_of (contents t) < 1024 → total (contents t) + length p ≤ 16384 → at ≤ length (longest t) → ((k : ℕ) → k < at → length p ≤ size (contents t) (get_or (longest t) k 0)) → ((k : ℕ) → at ≤ k → k < length (longest t) → size (contents t) (get_or (longest t) k 0) < length p) → contents u ≡ enter (contents t) p → longest u ≡ insert (longest t) at (count_of (contents t)) → entries u ≡ entries t ++ count_of (contents t) ∷ [] → u.minimum_len ≡ min t.minimum_len (length p) → u.total_pattern_bytes ≡ t.total_pattern_bytes + length p → Sound u
-entered_sound t u p at s some few within le longer shorter is order es least sum =
+pub entered_sound : (t u : Table) (p : List ℕ) (at : ℕ) → Sound t → 0 < length p → count_of (contents t) < 1024 → total (contents t) + length p ≤ 16384 → at ≤ vec_len t.order → IsPartitionPoint (λ i. leb (length p) (size (contents t) (number i)) ≡ true) (λ i. leb (length p) (size (contents t) (number i)) ≡ false) (vec_items t.order) at → contents u ≡ enter (contents t) p → longest u ≡ insert (longest t) at (count_of (contents t)) → entries u ≡ entries t ++ count_of (contents t) ∷ [] → u.minimum_len ≡ min t.minimum_len (length p) → u.total_pattern_bytes ≡ t.total_pattern_bytes + length p → Sound u
+entered_sound t u p at s some few within le cut is order es least sum =
     let b = contents t in
+    let ids = vec_items t.order in
+    let all : length (longest t) ≡ length ids = length-map ids number in
+    let longer : (k : ℕ) → k < at → length p ≤ size b (get_or (longest t) k 0) = λ k h. rw (id_at t k) (leb-true (length p) _ (cut.0 k _ (omega arith) h)) in
+    let shorter : (k : ℕ) → at ≤ k → k < length (longest t) → size b (get_or (longest t) k 0) < length p = λ k h l. rw (id_at t k) (leb-false (length p) _ (cut.1 k _ h (omega arith))) in
     let more = length_push (entries t) (count_of b) in
     record {
       summed = sum ∙ (ap (λ n. n + length p) s.summed ∙ (sym (sum_by_push length b.patterns p) ∙ sym (ap total is)));
       least = least ∙ (ap (λ n. min n (length p)) s.least ∙ (sym (fold_push (λ m q. min m (length q)) (2 ^ 64 - 1) b.patterns p) ∙ sym (ap shortest is)));
-      ordered = subst (λ c. LongestOrder c (longest u)) (sym is) (subst (LongestOrder (enter b p)) (sym order) (entered_order b (longest t) p at s.ordered le longer shorter));
+      ordered = subst (λ c. LongestOrder c (longest u)) (sym is) (subst (LongestOrder (enter b p)) (sym order) (entered_order b (longest t) p at s.ordered (omega (arith, length-longest t)) longer shorter));
       listed = omega (arith, ap length es, more, ap count_of is, length_push b.patterns p, s.listed);
       rises = λ k h. elim (cases_lt k (length (entries t))) [
         | inl l ↦ ap (λ q. get_or q k 0) es ∙ (get_or_append_left (entries t) (count_of b ∷ []) 0 k l ∙ s.rises k l)

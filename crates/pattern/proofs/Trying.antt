@@ -6,8 +6,10 @@ use Rattle.rules.specs.declared.primitives.MatchKind.{MatchKind}
 use Rattle.rules.specs.declared.primitives.MatchKind.TheVariants.{LeftmostFirst, LeftmostLongest}
 use Rattle.rules.specs.Book.{Book, count_of, size, PreferredBy}
 use Rattle.pattern.specs.declared.table.Table.{Table}
+use Rattle.pattern.specs.declared.book.Book.{Book as Closed}
 use Rattle.pattern.specs.Order.{times, ReadingOrder}
 use Rattle.pattern.specs.Contents.{contents, longest, entries, order_of, reading, Sound}
+use Rattle.pattern.specs.Closed.{book_of, order_in}
 
 -- a number that a list has stands somewhere
 place_of : (k : ℕ) (xs : List ℕ) → 0 < times k xs → (j : ℕ) × (j < length xs) × (get_or xs j 0 ≡ k)
@@ -49,3 +51,17 @@ pub reading_order : (t : Table) → Sound t → ReadingOrder (contents t) (readi
 reading_order t s =
     let h = tried t t.kind s in
     record { long = h.long; known = h.known; all = h.all; preferred = h.preferred }
+
+pub sound_of : (b : Closed) → Sound b.table
+sound_of b = record {
+  summed = b.summed;
+  least = b.least;
+  ordered = record { long = b.long; known = b.known; once = b.once; falling = b.falling; rising = b.rising };
+  listed = b.listed;
+  rises = b.rises;
+  within = record { some = b.some; few = b.few; short = b.short };
+}
+
+-- and so have the ids of a closed book, in the order of its kind
+pub ordered : (b : Closed) (ids : List ℕ) → ids ≡ order_in b → ReadingOrder (book_of b) ids
+ordered b ids e = rw e (reading_order b.table (sound_of b))

@@ -8,7 +8,7 @@ use crate::table::Table;
 pub mod reads;
 
 /// A closed book, which searchers read: the total of its bytes, its shortest length, each id once in the longest order and
-/// each id in its place in order of entry, and the bounds.
+/// each id in its place in order of entry, and the bounds. Each is a field of its own, since proofs of searchers cite it by name.
 #[derive(Drop)]
 pub struct Book {
     pub(crate) table: Table,

@@ -15,7 +15,14 @@ impl Book {
         ensures { book_of result ≡ empty }
     {
         Book {
-            table: Table::new(heap),
+            table: Table {
+                kind: MatchKind::LeftmostFirst,
+                by_id: Vec::new(heap),
+                entered: Vec::new(heap),
+                order: Vec::new(heap),
+                minimum_len: usize::MAX,
+                total_pattern_bytes: 0,
+            },
         }
     }
 
@@ -23,7 +30,7 @@ impl Book {
     pub fn len(&self) -> usize
         ensures { result ≡ count_of (book_of self.now) }
     {
-        self.table.len()
+        self.table.by_id.len()
     }
 
     /// The smallest length of a pattern; `usize::MAX` where there is none.
@@ -40,11 +47,15 @@ impl Book {
     }
 
     /// Every id, in the order in which the kind has patterns tried: a preferred one before the others.
+    #[tactic(auto, using(crate::proofs::Trying::ordered))]
     pub fn order(&self) -> &[PatternID]
         ensures same { map number result.now ≡ order_in self.now }
         ensures order { ReadingOrder (book_of self.now) (map number result.now) }
     {
-        self.table.reading()
+        match self.table.kind {
+            MatchKind::LeftmostFirst => self.table.entered.as_slice(),
+            MatchKind::LeftmostLongest => self.table.order.as_slice(),
+        }
     }
 
     /// The bytes of a pattern; no bytes for an id that the book lacks.

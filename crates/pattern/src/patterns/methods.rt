@@ -39,30 +39,16 @@ impl Patterns {
         ensures { Enters (open_of self.old) place bytes.now result (open_of self.new) }
     {
         if bytes.is_empty() {
-            return Err(Fault {
-                refusal: Refusal::EmptyPattern,
-                place,
-            });
+            return Err(Refusal::EmptyPattern.at(place));
         }
-        if self.book.table.len() >= MAX_PATTERNS {
-            return Err(Fault {
-                refusal: Refusal::TooManyPatterns,
-                place,
-            });
+        if self.book.len() >= MAX_PATTERNS {
+            return Err(Refusal::TooManyPatterns.at(place));
         }
         if bytes.len() > MAX_BYTES - self.book.table.total_pattern_bytes {
-            return Err(Fault {
-                refusal: Refusal::TooManyBytes,
-                place,
-            });
+            return Err(Refusal::TooManyBytes.at(place));
         }
-        match self.book.table.enter(self.heap, bytes) {
-            Ok(id) => Ok(id),
-            Err(_) => Err(Fault {
-                refusal: Refusal::Memory,
-                place,
-            }),
-        }
+        let entered = self.book.table.enter(self.heap, bytes);
+        entered.map_err(|_| Refusal::Memory.at(place))
     }
 
     /// Sets the kind, which the last call decides.
@@ -76,7 +62,7 @@ impl Patterns {
     pub fn minimum_len(&self) -> usize
         ensures { result ≡ shortest (open_of self.now) }
     {
-        self.book.table.minimum_len
+        self.book.minimum_len()
     }
 
     /// Whether the book may be closed and searched with `masks` masks. After an `Ok` neither refuses.
@@ -90,17 +76,11 @@ impl Patterns {
     pub fn check_at(&self, place: usize, masks: usize) -> Result<(), Fault>
         ensures { Checks (open_of self.now) place masks result }
     {
-        if self.book.table.len() == 0 {
-            return Err(Fault {
-                refusal: Refusal::NoPatterns,
-                place,
-            });
+        if self.book.len() == 0 {
+            return Err(Refusal::NoPatterns.at(place));
         }
-        if masks == 0 || masks > 4 || masks > self.book.table.minimum_len {
-            return Err(Fault {
-                refusal: Refusal::BadMaskCount,
-                place,
-            });
+        if masks == 0 || masks > 4 || masks > self.minimum_len() {
+            return Err(Refusal::BadMaskCount.at(place));
         }
         Ok(())
     }
