@@ -1,5 +1,6 @@
 -- The table with one pattern more, put into the longest order behind all that are at least as long.
-use Rattle.std.proofs.Common.{◌≡◌, ℕ, ◌+◌, ◌-◌, ◌^◌, ◌<◌, ◌≤◌, min, cond, eqb, ◌⊎◌, List, [], ◌∷◌, ◌++◌, true, false, leb, map, length, get_or, take, drop, vec_items, vec_len, sym, refl, ap, ◌∙◌, subst, inl, inr, eq-or-lt_of_le, mul-zero, arith}
+use Rattle.std.proofs.lemmas.Grind.{common_steps}
+use Rattle.std.proofs.Common.{◌≡◌, ℕ, ◌+◌, ◌-◌, ◌^◌, ◌<◌, ◌≤◌, min, cond, eqb, ◌⊎◌, List, [], ◌∷◌, ◌++◌, true, false, leb, map, length, get_or, take, drop, vec_items, vec_len, sym, refl, ap, ◌∙◌, subst, inl, inr, eq-or-lt_of_le, mul-zero, arith, rules}
 use Rattle.std.specs.List.{insert}
 use Rattle.std.specs.List.Sorted.{IsPartitionPoint, IsPartitionedBy}
 use Rattle.std.proofs.lemmas.List.{get_or-map, get_or_append_left, get_or_push, length-map, length_push, take-map, drop-map, map-append}
@@ -18,10 +19,10 @@ pub map_inserted : {X Y : Type 0} (f : X → Y) (xs : List X) (i : ℕ) (x : X) 
 map_inserted f xs i x = simp (map-append, take-map, drop-map)
 
 size_old : (b : Book) (p : List ℕ) (k : ℕ) → k < count_of b → size (enter b p) k ≡ size b k
-size_old b p k h = ap length (get_or_append_left b.patterns (p ∷ []) [] k h)
+size_old b p k h = grind (arith, common_steps)
 
 size_new : (b : Book) (p : List ℕ) → size (enter b p) (count_of b) ≡ length p
-size_new b p = ap length (get_or_push b.patterns p [] (count_of b) refl)
+size_new b p = grind (arith, common_steps)
 
 -- the places of a list with one element more: before it, at it, behind it
 Part : ℕ → ℕ → Type 0
@@ -32,9 +33,7 @@ unfolding Part
 part at k = elim (cases_lt k at) [ inl h ↦ inl h | inr h ↦ elim (eq-or-lt_of_le h) [ inl e ↦ inr (inl (sym e)) | inr l ↦ inr (inr (k - 1, omega arith, omega arith)) ] ]
 
 times_inserted : (k : ℕ) (xs : List ℕ) (i x : ℕ) → times k (insert xs i x) ≡ cond (eqb x k) 1 0 + times k xs
-times_inserted k xs i x =
-    let f : ℕ → ℕ = λ y. cond (eqb y k) 1 0 in
-    omega (arith, sum_by-append f (take i xs) (x ∷ drop i xs), sum_by-cons f x (drop i xs), sum_by-take-drop f xs i)
+times_inserted k xs i x = grind (arith, common_steps)
 
 -- a number that stands nowhere in a list
 times_none : (k : ℕ) (xs : List ℕ) → ((j : ℕ) → j < length xs → get_or xs j 0 ≡ k → ⊥) → times k xs ≡ 0
@@ -48,7 +47,7 @@ Before : Book → ℕ → ℕ → Type 0
 Before b a c = (size b c ≤ size b a) × (size b c ≡ size b a → a < c)
 
 moved : (b : Book) {a c a' c' : ℕ} → a ≡ a' → c ≡ c' → Before b a' c' → Before b a c
-moved b {a} {c} {a'} {c'} e f w = subst (λ x. Before b x c) (sym e) (subst (λ y. Before b a' y) (sym f) w)
+moved b {a} {c} {a'} {c'} e f w = search rules
 
 -- the new pattern's id goes behind those of all that are at least as long
 module _ (b : Book) (ids : List ℕ) (p : List ℕ) (at : ℕ) (old : LongestOrder b ids) (le : at ≤ length ids) (longer : (k : ℕ) → k < at → length p ≤ size b (get_or ids k 0)) (shorter : (k : ℕ) → at ≤ k → k < length ids → size b (get_or ids k 0) < length p) where
@@ -59,7 +58,7 @@ module _ (b : Book) (ids : List ℕ) (p : List ℕ) (at : ℕ) (old : LongestOrd
   ids' = insert ids at (count_of b)
 
   before : (k : ℕ) → k < at → get_or ids' k 0 ≡ get_or ids k 0
-  before k h = get_or-insert_below ids at n 0 k h le
+  before k h = grind (arith, common_steps)
 
   here : get_or ids' at 0 ≡ n
   here = get_or-insert_at ids at n 0 le
@@ -68,13 +67,11 @@ module _ (b : Book) (ids : List ℕ) (p : List ℕ) (at : ℕ) (old : LongestOrd
   behind k h = get_or-insert_above ids at n 0 k h le
 
   kept : (k : ℕ) → k < length ids → size (enter b p) (get_or ids k 0) ≡ size b (get_or ids k 0)
-  kept k h = size_old b p (get_or ids k 0) (old.known k h)
+  kept k h = grind (arith, common_steps)
 
   olds : (i j : ℕ) → i < j → j < length ids → Before (enter b p) (get_or ids i 0) (get_or ids j 0)
   unfolding Before
-  olds i j lt h =
-      let il : i < length ids = omega arith in
-      (omega (arith, kept i il, kept j h, old.falling i j lt h), λ q. old.rising i j (lt, h, omega (arith, q, kept i il, kept j h)))
+  olds i j lt h = grind (arith, common_steps)
 
   all : (i j : ℕ) → i < j → j < length ids' → Before (enter b p) (get_or ids' i 0) (get_or ids' j 0)
   unfolding Part Before
@@ -123,16 +120,7 @@ module _ (b : Book) (ids : List ℕ) (p : List ℕ) (at : ℕ) (old : LongestOrd
 
 -- the bounds hold on
 entered_within : (b : Book) (p : List ℕ) → Within b → 0 < length p → count_of b < 1024 → total b + length p ≤ 16384 → Within (enter b p)
-entered_within b p w some few short =
-    let more = length_push b.patterns p in
-    record {
-      some = λ k h. elim (cases_lt k (count_of b)) [
-        | inl l ↦ omega (arith, size_old b p k l, w.some k l)
-        | inr g ↦ let e : k ≡ count_of b = omega (arith, more) in omega (arith, ap (size (enter b p)) e, size_new b p)
-      ];
-      few = omega (arith, more);
-      short = omega (arith, sum_by_push length b.patterns p);
-    }
+entered_within b p w some few short = grind (arith, common_steps)
 
 -- in the longest order no pattern of n bytes or more stands behind a shorter one
 pub parted : (t : Table) (n : ℕ) → Sound t → IsPartitionedBy (λ i. leb n (size (contents t) (number i))) (vec_items t.order)
