@@ -1,13 +1,13 @@
 -- The table with one pattern more, put into the longest order behind all that are at least as long.
 use Rattle.std.proofs.lemmas.Grind.{common_steps}
-use Rattle.std.proofs.Common.{◌≡◌, ℕ, ◌+◌, ◌-◌, ◌^◌, ◌<◌, ◌≤◌, min, cond, eqb, ◌⊎◌, List, [], ◌∷◌, ◌++◌, true, false, leb, map, length, get_or, take, drop, vec_items, vec_len, sym, refl, ap, ◌∙◌, subst, inl, inr, eq-or-lt_of_le, mul-zero, arith, rules}
+use Rattle.std.proofs.Common.{◌≡◌, ℕ, ◌+◌, ◌-◌, ◌^◌, ◌<◌, ◌≤◌, min, cond, eqb, List, [], ◌∷◌, ◌++◌, true, false, leb, map, length, get_or, vec_items, vec_len, sym, ap, ◌∙◌, subst, inl, inr, eq-or-lt_of_le, mul-zero, arith, rules}
 use Rattle.std.specs.List.{insert}
 use Rattle.std.specs.List.Sorted.{IsPartitionPoint, IsPartitionedBy}
-use Rattle.std.proofs.lemmas.List.{get_or-map, get_or_append_left, get_or_push, length-map, length_push, take-map, drop-map, map-append}
-use Rattle.std.proofs.lemmas.List.Edits.{length-insert, get_or-insert_below, get_or-insert_at, get_or-insert_above}
-use Rattle.std.proofs.lemmas.List.Sums.{sum_by-append, sum_by-cons, sum_by-take-drop, sum_by_push, fold_push}
+use Rattle.std.proofs.lemmas.List.{get_or-map, length-map, length_push, take-map, drop-map, map-append}
+use Rattle.std.proofs.lemmas.List.Edits.{length-insert, get_or-insert_at, get_or-insert_above}
+use Rattle.std.proofs.lemmas.List.Sums.{sum_by_push, fold_push}
 use Rattle.std.proofs.ByRecursion.{sum_by_le, All-from_get_or}
-use Rattle.std.proofs.lemmas.Bool.{cases_eq, cases_lt, ne_eqb, eq-eqb, cond-false, cond-true, leb-true, leb-false, le-leb}
+use Rattle.std.proofs.lemmas.Bool.{cases_eq, ne_eqb, eq-eqb, cond-false, cond-true, leb-true, leb-false, le-leb}
 use Rattle.rules.specs.Book.{Book, count_of, size, total, shortest, Within}
 use Rattle.rules.specs.Entered.{enter}
 use Rattle.pattern.specs.declared.table.Table.{Table}
@@ -24,14 +24,6 @@ size_old b p k h = grind (arith, common_steps)
 size_new : (b : Book) (p : List ℕ) → size (enter b p) (count_of b) ≡ length p
 size_new b p = grind (arith, common_steps)
 
--- the places of a list with one element more: before it, at it, behind it
-Part : ℕ → ℕ → Type 0
-Part at k = (k < at) ⊎ ((k ≡ at) ⊎ ((j : ℕ) × (k ≡ j + 1) × (at ≤ j)))
-
-part : (at k : ℕ) → Part at k
-unfolding Part
-part at k = elim (cases_lt k at) [ inl h ↦ inl h | inr h ↦ elim (eq-or-lt_of_le h) [ inl e ↦ inr (inl (sym e)) | inr l ↦ inr (inr (k - 1, omega arith, omega arith)) ] ]
-
 times_inserted : (k : ℕ) (xs : List ℕ) (i x : ℕ) → times k (insert xs i x) ≡ cond (eqb x k) 1 0 + times k xs
 times_inserted k xs i x = grind (arith, common_steps)
 
@@ -46,8 +38,12 @@ times_none k xs none =
 Before : Book → ℕ → ℕ → Type 0
 Before b a c = (size b c ≤ size b a) × (size b c ≡ size b a → a < c)
 
-moved : (b : Book) {a c a' c' : ℕ} → a ≡ a' → c ≡ c' → Before b a' c' → Before b a c
-moved b {a} {c} {a'} {c'} e f w = search rules
+-- where n is put among the numbers f, which gives g: what holds of each, and of each with the later ones, holds on
+each : (P : ℕ → Type 0) (f g : ℕ → ℕ) (at n l : ℕ) → ((k : ℕ) → k < at → g k ≡ f k) → g at ≡ n → ((k : ℕ) → at < k → g k ≡ f (k - 1)) → ((k : ℕ) → k < l → P (f k)) → P n → at ≤ l → (k : ℕ) → k < l + 1 → P (g k)
+each P f g at n l before here behind old new le k h = search rules
+
+pairs : (R : ℕ → ℕ → Type 0) (f g : ℕ → ℕ) (at n l : ℕ) → ((k : ℕ) → k < at → g k ≡ f k) → g at ≡ n → ((k : ℕ) → at < k → g k ≡ f (k - 1)) → ((i j : ℕ) → i < j → j < l → R (f i) (f j)) → ((k : ℕ) → k < at → R (f k) n) → ((k : ℕ) → at ≤ k → k < l → R n (f k)) → at ≤ l → (i j : ℕ) → i < j → j < l + 1 → R (g i) (g j)
+pairs R f g at n l before here behind old low high le i j lt h = search rules
 
 -- the new pattern's id goes behind those of all that are at least as long
 module _ (b : Book) (ids : List ℕ) (p : List ℕ) (at : ℕ) (old : LongestOrder b ids) (le : at ≤ length ids) (longer : (k : ℕ) → k < at → length p ≤ size b (get_or ids k 0)) (shorter : (k : ℕ) → at ≤ k → k < length ids → size b (get_or ids k 0) < length p) where
@@ -63,59 +59,39 @@ module _ (b : Book) (ids : List ℕ) (p : List ℕ) (at : ℕ) (old : LongestOrd
   here : get_or ids' at 0 ≡ n
   here = get_or-insert_at ids at n 0 le
 
-  behind : (k : ℕ) → at ≤ k → get_or ids' (k + 1) 0 ≡ get_or ids k 0
-  behind k h = get_or-insert_above ids at n 0 k h le
+  behind : (k : ℕ) → at < k → get_or ids' k 0 ≡ get_or ids (k - 1) 0
+  behind k h = let e : k - 1 + 1 ≡ k = omega arith in ap (λ j. get_or ids' j 0) (sym e) ∙ get_or-insert_above ids at n 0 (k - 1) (omega arith) le
 
   kept : (k : ℕ) → k < length ids → size (enter b p) (get_or ids k 0) ≡ size b (get_or ids k 0)
-  kept k h = grind (arith, common_steps)
+  kept k h = size_old b p (get_or ids k 0) (old.known k h)
 
   olds : (i j : ℕ) → i < j → j < length ids → Before (enter b p) (get_or ids i 0) (get_or ids j 0)
   unfolding Before
   olds i j lt h = grind (arith, common_steps)
 
-  all : (i j : ℕ) → i < j → j < length ids' → Before (enter b p) (get_or ids' i 0) (get_or ids' j 0)
-  unfolding Part Before
-  all i j lt h =
-      let longs = length-insert ids at n le in
+  all : (i j : ℕ) → i < j → j < length ids + 1 → Before (enter b p) (get_or ids' i 0) (get_or ids' j 0)
+  unfolding Before
+  all =
       let new = size_new b p in
-      elim (part at i) [
-        | inl il ↦ elim (part at j) [
-          | inl jl ↦ moved (enter b p) (before i il) (before j jl) (olds i j lt (omega arith))
-          | inr (inl je) ↦ moved (enter b p) (before i il) (ap (λ k. get_or ids' k 0) je ∙ here) (omega (arith, new, kept i (omega arith), longer i il), λ _. old.known i (omega arith))
-          | inr (inr (c, je, jg)) ↦ moved (enter b p) (before i il) (ap (λ k. get_or ids' k 0) je ∙ behind c jg) (olds i c (omega arith) (omega (arith, longs)))
-        ]
-        | inr (inl ie) ↦ elim (part at j) [
-          | inl jl ↦ absurd (omega arith)
-          | inr (inl je) ↦ absurd (omega arith)
-          | inr (inr (c, je, jg)) ↦
-              let cl : c < length ids = omega (arith, longs) in
-              moved (enter b p) (ap (λ k. get_or ids' k 0) ie ∙ here) (ap (λ k. get_or ids' k 0) je ∙ behind c jg) (omega (arith, new, kept c cl, shorter c jg cl), λ q. absurd (omega (arith, q, new, kept c cl, shorter c jg cl)))
-        ]
-        | inr (inr (a, ie, ig)) ↦ elim (part at j) [
-          | inl jl ↦ absurd (omega arith)
-          | inr (inl je) ↦ absurd (omega arith)
-          | inr (inr (c, je, jg)) ↦ moved (enter b p) (ap (λ k. get_or ids' k 0) ie ∙ behind a ig) (ap (λ k. get_or ids' k 0) je ∙ behind c jg) (olds a c (omega arith) (omega (arith, longs)))
-        ]
-      ]
+      pairs (Before (enter b p)) (λ k. get_or ids k 0) (λ k. get_or ids' k 0) at n (length ids) before here behind olds
+      (λ k h. (omega (arith, kept k (omega arith), longer k h), λ _. old.known k (omega arith)))
+      (λ k h l. (omega (arith, kept k l, shorter k h l), λ q. absurd (omega (arith, q, kept k l, shorter k h l))))
+      le
 
   pub entered_order : LongestOrder (enter b p) ids'
-  unfolding Part Before
+  unfolding Before
   entered_order =
       let more = length_push b.patterns p in
       let longs = length-insert ids at n le in
       record {
-        long = omega (arith, old.long, more, longs);
-        known = λ k h. elim (part at k) [
-          | inl l ↦ omega (arith, before k l, old.known k (omega arith), more)
-          | inr (inl e) ↦ omega (arith, here, more, ap (λ j. get_or ids' j 0) e)
-          | inr (inr (j, e, g)) ↦ omega (arith, ap (λ j. get_or ids' j 0) e, behind j g, old.known j (omega (arith, longs)), more)
-        ];
+        long = omega (arith, old.long);
+        known = λ k h. each (λ i. i < count_of (enter b p)) (λ k. get_or ids k 0) (λ k. get_or ids' k 0) at n (length ids) before here behind (λ k l. omega (arith, old.known k l)) (omega arith) le k (omega arith);
         once = λ k h. elim (cases_eq n k) [
           | inl e ↦ omega (arith, times_inserted k ids at n, cond-true {A = ℕ} (eqb n k) 1 0 (eq-eqb n k e), times_none k ids (λ j l q. omega (arith, old.known j l)))
-          | inr ne ↦ omega (arith, times_inserted k ids at n, cond-false {A = ℕ} (eqb n k) 1 0 (ne_eqb n k ne), old.once k (omega (arith, more, ne)))
+          | inr ne ↦ omega (arith, times_inserted k ids at n, cond-false {A = ℕ} (eqb n k) 1 0 (ne_eqb n k ne), old.once k (omega (arith, ne)))
         ];
-        falling = λ i j lt h. (all i j lt h).0;
-        rising = λ i j h. (all i j h.0 h.1).1 h.2;
+        falling = λ i j lt h. (all i j lt (omega arith)).0;
+        rising = λ i j h. (all i j h.0 (omega arith)).1 h.2;
       }
 
 -- the bounds hold on
@@ -142,15 +118,10 @@ entered_sound t u p at s some few within le cut is order es least sum =
     let shorter : (k : ℕ) → at ≤ k → k < length (longest t) → size b (get_or (longest t) k 0) < length p = λ k h l. rw (id_at t k) (leb-false (length p) _ (cut.1 k _ h (omega arith))) in
     let more = length_push (entries t) (count_of b) in
     record {
-      summed = sum ∙ (ap (λ n. n + length p) s.summed ∙ (sym (sum_by_push length b.patterns p) ∙ sym (ap total is)));
-      least = least ∙ (ap (λ n. min n (length p)) s.least ∙ (sym (fold_push (λ m q. min m (length q)) (2 ^ 64 - 1) b.patterns p) ∙ sym (ap shortest is)));
+      summed = omega (arith, ap total is, sum_by_push length b.patterns p);
+      least = omega (arith, ap shortest is, fold_push (λ m q. min m (length q)) (2 ^ 64 - 1) b.patterns p);
       ordered = subst (λ c. LongestOrder c (longest u)) (sym is) (subst (LongestOrder (enter b p)) (sym order) (entered_order b (longest t) p at s.ordered (omega (arith, length-longest t)) longer shorter));
       listed = omega (arith, ap length es, more, ap count_of is, length_push b.patterns p, s.listed);
-      rises = λ k h. elim (cases_lt k (length (entries t))) [
-        | inl l ↦ ap (λ q. get_or q k 0) es ∙ (get_or_append_left (entries t) (count_of b ∷ []) 0 k l ∙ s.rises k l)
-        | inr g ↦
-            let e : length (entries t) ≡ k = omega (arith, ap length es, more) in
-            ap (λ q. get_or q k 0) es ∙ (get_or_push (entries t) (count_of b) 0 k e ∙ omega (arith, s.listed))
-      ];
+      rises = λ k h. grind (arith, common_steps);
       within = subst Within (sym is) (entered_within b p s.within some few within);
     }

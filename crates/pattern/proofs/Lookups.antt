@@ -20,6 +20,3 @@ id_at t i = ListN.get_or-map (λ (i : PatternID). i.0.0) (vec_items t.order) i r
 
 pub pattern_at : (t : Table) (k : ℕ) (v : Vec ℕ Global) → k < vec_len t.by_id → v ≡ get_or (vec_items t.by_id) k v → pattern (contents t) k ≡ vec_items v
 pattern_at t k v h e = get_or-map (λ v. vec_items v) (vec_items t.by_id) k v [] (omega (arith, t.by_id.ok.0)) ∙ ap (λ v. vec_items v) (sym e)
-
-pub size_at : (t : Table) (k : ℕ) (v : Vec ℕ Global) → k < vec_len t.by_id → v ≡ get_or (vec_items t.by_id) k v → size (contents t) k ≡ vec_len v
-size_at t k v h e = ap length (pattern_at t k v h e) ∙ sym v.ok.0

@@ -1,7 +1,6 @@
 use Rattle.std.proofs.Common.{◌≡◌, ℕ, List, [], ◌∷◌, ◌++◌, leb, rules, length, map, vec_items, Vec, sym, refl, ap, ◌∙◌, arith}
 use Rattle.std.specs.declared.alloc.Global.{Global}
 use Rattle.std.specs.List.{insert}
-use Rattle.std.proofs.lemmas.List.{map-append}
 use Rattle.std.proofs.lemmas.Grind.{common_steps}
 use Rattle.std.proofs.lemmas.List.Sorted.{IsPartitionPoint-from_clause}
 use Rattle.rules.specs.Book.{Book, count_of, size}
@@ -21,10 +20,9 @@ returns-clause-sound c =
     let bytes : Vec ℕ Global → List ℕ = λ v. vec_items v in
     let is : c.len.result ≡ count_of b = c.len.ensures ∙ sym (count_is t) in
     let cut = IsPartitionPoint-from_clause (λ i. leb (length p) (size b (number i))) (vec_items t.order) at (rw c.deref.ensures.value at c.partition_point-at.ensures.partitioned) (parted t (length p) c.requires.sound) (λ a r q k. search rules) in
-    let ps : map (λ v. vec_items v) (vec_items c.push_reserved-2.new.self) ≡ b.patterns ++ p ∷ [] =
-    ap (map bytes) c.push_reserved-2.ensures.items ∙ (map-append bytes (vec_items c.try_reserve.new.self) (c.in_ok-kept.kept ∷ []) ∙ (ap (λ xs. map bytes xs ++ vec_items c.in_ok-kept.kept ∷ []) c.try_reserve.ensures.items ∙ ap (λ q. b.patterns ++ q ∷ []) c.in_ok-kept.ensures.items)) in
+    let ps : map bytes (vec_items c.push_reserved-2.new.self) ≡ b.patterns ++ p ∷ [] = grind (arith, common_steps) in
     let book : ◌≡◌ {A = Book} (record { kind = t.kind; patterns = map (λ v. vec_items v) (vec_items c.push_reserved-2.new.self) }) (enter b p) = ap (λ qs. record { kind = t.kind; patterns = qs }) ps in
     let order : map number (vec_items c.insert.new.self) ≡ insert (longest t) at (count_of b) =
-    ap (map number) c.in_ok-insert.ensures.items ∙ (map_inserted number (vec_items t.order) at c.from-id.result ∙ ap (insert (longest t) at) (omega (arith, ap number c.from-id.ensures, is))) in
+    ap (map number) c.in_ok-insert.ensures.items ∙ (map_inserted number (vec_items t.order) at c.from-id.result ∙ ap (insert (longest t) at) (cc)) in
     let listed : map number (vec_items c.push_reserved.new.self) ≡ entries t ++ count_of b ∷ [] = grind (arith, common_steps) in
     entered_sound t _ p at c.requires.sound c.requires.filled c.requires.few c.requires.within (omega (arith, c.partition_point-at.ensures.bound, ap length c.deref.ensures.value, t.order.ok.0)) cut book order listed c.min-self.ensures refl
