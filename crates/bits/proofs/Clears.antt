@@ -4,7 +4,7 @@ use lib.Bits.{bit_and, and_block, and_self, and_shifted}
 use lib.Count.{count_trailing_zeros, under}
 use Rattle.std.proofs.lemmas.Nat.{pow_pos, pow-add, shl-shr, shr-shr, shr_high}
 use Rattle.std.proofs.lemmas.Bool.{cases_lt, cases_order}
-use Rattle.bits.specs.Digits.{IsSet}
+use Rattle.bits.specs.Digits.{IsSet, Taken}
 
 -- n has its lowest set digit at t, below k; m are the digits above it
 pub record LowestAt (k n t : ℕ) : Type 0 where
@@ -130,3 +130,14 @@ module _ (k n : ℕ) (pos : 0 < n) (lt : n < 2 ^ k) where
 
   pub cleared_sum : bit_and n (n - 1) + 2 ^ count_trailing_zeros k n ≡ n
   cleared_sum = ap (λ x. x + 2 ^ count_trailing_zeros k n) cleared ∙ sym (trailing-lowest k n pos lt).is
+
+-- all of it, of a number of 64 digits
+pub taken : (n : ℕ) → 0 < n → n < 2 ^ 64 → Taken n (count_trailing_zeros 64 n) (bit_and n (n - 1))
+taken n pos lt = record {
+  within = (trailing-lowest 64 n pos lt).within;
+  set = tz_set 64 n pos lt;
+  lowest = tz_below 64 n pos lt;
+  sum = cleared_sum 64 n pos lt;
+  kept = cleared_set 64 n pos lt;
+  others = set_cleared 64 n pos lt;
+}
