@@ -5,7 +5,7 @@ use Rattle.rules.specs.Places.{AnswersAt}
 use Rattle.rules.proofs.Rule.{settled, found_unique}
 use Rattle.pattern.specs.Closed.{book_of}
 use Rattle.finder.specs.Plain.{searched}
-use Rattle.finder.proofs.plain.Plain.find_from.Goals as goal
+use Rattle.finder.proofs.plain.find.PlainFinder.find.Goals as goal
 
 pub returns-in-Some : goal.returns-in-Some
 returns-in-Some c =
