@@ -15,6 +15,7 @@ use std::rc::Rc;
 fn find_here(book: &Book, text: &[u8], start: usize) -> Option<Match>
     ensures { AnswersAt (book_of book.now) text.now start result }
 {
+    // the plain loop over the order table goes with its index by a rule of the project
     for (i, id) in book.order().iter().enumerate() {
         if let Some(hit) = verify(book, *id, text, start) {
             return Some(hit);
