@@ -3,12 +3,10 @@ use Rattle.std.proofs.Common.{◌≡◌, ℕ, zero, suc, ◌+◌, ◌<◌, ◌�
 use Rattle.std.proofs.lemmas.List.Sums.{sum_by-cons, sum_by-take-le, length-filter, count_by-le-length, count_by_more_yes}
 use Rattle.std.proofs.lemmas.Bool.Decides.{nat_tests}
 use Rattle.std.proofs.lemmas.List.Elements.{filter_more}
-use Rattle.std.proofs.lemmas.List.{append-nil, map-append, length_push, take_all, get_or-set_same, get_or-set_other}
+use Rattle.std.proofs.lemmas.List.{append-nil, map-append, take_all, get_or-set_same, get_or-set_other}
 use Rattle.std.proofs.lemmas.Bool.{cases_eq, eq-eqb, ne_eqb, cond-true, cond-false}
 use Rattle.rules.specs.declared.primitives.PatternID.{PatternID}
 use Rattle.pattern.specs.Order.{number}
-use Rattle.buckets.specs.declared.row.Row.{Row}
-use Rattle.buckets.specs.Row.{held}
 use Rattle.buckets.specs.Buckets.{in_bucket, below}
 
 one_split : (k b : ℕ) → cond (ltb k (suc b)) 1 0 ≡ cond (ltb k b) 1 0 + cond (eqb k b) 1 0
@@ -35,9 +33,6 @@ module _ (key : ℕ → ℕ) where
       let p : ℕ → Bool = λ x. eqb (key x) b in
       omega (arith, length-below order b, length-filter p (take i order), count_by_more_yes p order i 0 il (eq-eqb (key (get_or order i 0)) b e), sum_by-take-le (λ x. cond (eqb (key x) b) 1 0) order (i + 1), count_split b order, count_by-le-length (λ x. ltb (key x) (suc b)) order)
 
-pub below_few : (key : ℕ → ℕ) (order : List ℕ) (b : ℕ) → length (below key order b) ≤ length order
-below_few key order b = omega (arith, length-below key order b, count_by-le-length (λ x. ltb (key x) b) order)
-
 pub below_none : (key : ℕ → ℕ) (order : List ℕ) → below key order 0 ≡ []
 unfolding below
 below_none key order = refl
@@ -47,34 +42,30 @@ unfolding below
 below_next key order b = rw (add-one)
 
 module _ (key : ℕ → ℕ) (order : List ℕ) where
-  -- the buckets below b, and of b what the first i of the order have
-  abbrev pub Filled : Row → ℕ → ℕ → Type 0
-  Filled r b i = (map number (held r) ≡ below key order b ++ in_bucket key (take i order) b) × (r.len ≡ length (below key order b) + length (in_bucket key (take i order) b))
+  -- xs has the buckets below b, and of b what the first i of the order have
+  abbrev pub Filled : List PatternID → ℕ → ℕ → Type 0
+  Filled xs b i = map number xs ≡ below key order b ++ in_bucket key (take i order) b
 
-  pub filled_yes : (r q : Row) (b i : ℕ) (x : PatternID) → i < length order → key (get_or order i 0) ≡ b → x.0.0 ≡ get_or order i 0 → held q ≡ held r ++ x ∷ [] → q.len ≡ r.len + 1 → Filled r b i → Filled q b (i + 1)
-  filled_yes r q b i x il e is items len inv =
+  pub filled_yes : (xs ys : List PatternID) (b i : ℕ) (x : PatternID) → i < length order → key (get_or order i 0) ≡ b → x.0.0 ≡ get_or order i 0 → ys ≡ xs ++ x ∷ [] → Filled xs b i → Filled ys b (i + 1)
+  filled_yes xs ys b i x il e is more inv =
       let id = get_or order i 0 in
-      let more : in_bucket key (take (i + 1) order) b ≡ in_bucket key (take i order) b ++ id ∷ [] =
-      filter_more (λ y. eqb (key y) b) order i 0 il ∙ ap (λ q. in_bucket key (take i order) b ++ q) (cond-true (eqb (key id) b) (id ∷ []) [] (eq-eqb (key id) b e)) in (
-        ap (map number) items ∙ (map-append number (held r) (x ∷ []) ∙ (ap (λ q. q ++ x.0.0 ∷ []) inv.0 ∙ (ap (λ n. (below key order b ++ in_bucket key (take i order) b) ++ n ∷ []) is
-            ∙ (append_assoc (below key order b) (in_bucket key (take i order) b) (id ∷ []) ∙ ap (λ q. below key order b ++ q) (sym more))))),
-        omega (arith, len, inv.1, ap length more, length_push (in_bucket key (take i order) b) id),
-      )
+      let one : in_bucket key (take (i + 1) order) b ≡ in_bucket key (take i order) b ++ id ∷ [] =
+      filter_more (λ y. eqb (key y) b) order i 0 il ∙ ap (λ q. in_bucket key (take i order) b ++ q) (cond-true (eqb (key id) b) (id ∷ []) [] (eq-eqb (key id) b e)) in
+      ap (map number) more ∙ (map-append number xs (x ∷ []) ∙ (ap (λ q. q ++ x.0.0 ∷ []) inv ∙ (ap (λ n. (below key order b ++ in_bucket key (take i order) b) ++ n ∷ []) is
+      ∙ (append_assoc (below key order b) (in_bucket key (take i order) b) (id ∷ []) ∙ ap (λ q. below key order b ++ q) (sym one)))))
 
-  pub filled_no : (r : Row) (b i : ℕ) → i < length order → (key (get_or order i 0) ≡ b → ⊥) → Filled r b i → Filled r b (i + 1)
-  filled_no r b i il ne inv =
+  pub filled_no : (xs : List PatternID) (b i : ℕ) → i < length order → (key (get_or order i 0) ≡ b → ⊥) → Filled xs b i → Filled xs b (i + 1)
+  filled_no xs b i il ne inv =
       let id = get_or order i 0 in
-      let more : in_bucket key (take (i + 1) order) b ≡ in_bucket key (take i order) b =
+      let same : in_bucket key (take (i + 1) order) b ≡ in_bucket key (take i order) b =
       filter_more (λ y. eqb (key y) b) order i 0 il ∙ (ap (λ q. in_bucket key (take i order) b ++ q) (cond-false (eqb (key id) b) (id ∷ []) [] (ne_eqb (key id) b ne)) ∙ append-nil (in_bucket key (take i order) b)) in
-      (inv.0 ∙ ap (λ q. below key order b ++ q) (sym more), omega (arith, inv.1, ap length more))
+      inv ∙ ap (λ q. below key order b ++ q) (sym same)
 
-  pub filled_start : (r : Row) (b : ℕ) → map number (held r) ≡ below key order b → r.len ≡ length (below key order b) → Filled r b 0
-  filled_start r b e l = (e ∙ sym (append-nil (below key order b)), omega arith)
+  pub filled_start : (xs : List PatternID) (b : ℕ) → map number xs ≡ below key order b → Filled xs b 0
+  filled_start xs b e = e ∙ sym (append-nil (below key order b))
 
-  pub filled_end : (r : Row) (b i : ℕ) → length order ≤ i → Filled r b i → (map number (held r) ≡ below key order (b + 1)) × (r.len ≡ length (below key order (b + 1)))
-  filled_end r b i le inv =
-      let all : below key order b ++ in_bucket key (take i order) b ≡ below key order (b + 1) = ap (λ q. below key order b ++ in_bucket key q b) (take_all i order le) ∙ sym (below_next key order b) in
-      (inv.0 ∙ all, omega (arith, inv.1, ap length all, length-append (below key order b) (in_bucket key (take i order) b)))
+  pub filled_end : (xs : List PatternID) (b i : ℕ) → length order ≤ i → Filled xs b i → map number xs ≡ below key order (b + 1)
+  filled_end xs b i le inv = inv ∙ (ap (λ q. below key order b ++ in_bucket key q b) (take_all i order le) ∙ sym (below_next key order b))
 
 -- one more start
 pub starts_more : (f : ℕ → ℕ) (xs : List ℕ) (b v : ℕ) → length xs ≡ 65 → b < 64 → v ≡ f (b + 1) → ((k : ℕ) → k ≤ b → get_or xs k 0 ≡ f k) → (k : ℕ) → k ≤ b + 1 → get_or (set xs (b + 1) v) k 0 ≡ f k

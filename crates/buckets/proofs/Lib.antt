@@ -1,4 +1,3 @@
 pub mod Counts
 pub mod Slices
-pub mod Turns
 pub mod Members

@@ -15,7 +15,7 @@ below key order zero = []
 below key order (suc k) = below key order k ++ in_bucket key order k
 
 abbrev pub members : Buckets → ℕ → List ℕ
-members s k = map number (between (slice_index s.starts k) (slice_index s.starts (k + 1)) s.row.ids)
+members s k = map number (between (slice_index s.starts k) (slice_index s.starts (k + 1)) s.ids.items)
 
 abbrev pub Holds : Buckets → (ℕ → ℕ) → List ℕ → Type 0
 Holds s key order = (k : ℕ) → k < 64 → members s k ≡ in_bucket key order k

@@ -1,15 +1,17 @@
 ghost use Rattle.std.specs.Prelude.{ℕ, ◌+◌, ◌<◌, ◌≤◌, slice_index};
+ghost use Rattle.arrayvec.specs.ArrayVec.{array_vec_len};
 
-use crate::row::Row;
+use arrayvec::ArrayVec;
+use rules::primitives::PatternID;
 
 pub mod methods;
 
 /// The ids of a book in 64 buckets: those of all buckets one after another, and where each bucket starts. The tables have
 /// the bounds of a book, so that making them cannot refuse.
-#[derive(Clone, Copy)]
+#[derive(Drop)]
 pub struct Buckets {
-    row: Row,
+    ids: ArrayVec<PatternID, 1024>,
     starts: [usize; 65],
     ghost rising: { (k : ℕ) → k < 64 → slice_index starts k ≤ slice_index starts (k + 1) },
-    ghost within: { (k : ℕ) → k < 64 → slice_index starts (k + 1) ≤ 1024 },
+    ghost within: { (k : ℕ) → k < 64 → slice_index starts (k + 1) ≤ array_vec_len ids },
 }

@@ -3,4 +3,3 @@
 #![tactic(auto)]
 
 pub mod buckets;
-pub mod row;

@@ -16,11 +16,7 @@ fn push(hash: usize, byte: u8) -> usize
 pub fn hash(bytes: &[u8]) -> usize
     ensures { result ≡ hash_of bytes.now }
 {
-    let mut hash = 0;
-    for b in bytes {
-        hash = push(hash, *b);
-    }
-    hash
+    bytes.iter().fold(0, |hash, b| push(hash, *b))
 }
 
 /// By how much the first of `len` bytes counts in their hash. There is no loop, since `len` may be 2^64 - 1, the shortest
@@ -47,15 +43,10 @@ pub fn update_hash(prev: usize, hash_2pow: usize, old: u8, new: u8) -> usize
 
 /// Moving on from a window's hash gives the hash of the next window, for every text and every length, above 64 too. It
 /// answers `true`.
+#[tactic(auto, using(crate::proofs::Windows::rolling))]
 pub fn hash_rolls() -> bool
     ensures rolls { Rolling }
     ensures value { result ≡ true }
 {
-    rolling();
     true
 }
-
-/// What `hash_rolls` states.
-fn rolling()
-    ensures { Rolling }
-{}

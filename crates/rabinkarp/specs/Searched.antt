@@ -7,7 +7,7 @@ use Rattle.pattern.specs.Closed.{book_of}
 use Rattle.rabinkarp.specs.declared.rabinkarp.RabinKarp.{RabinKarp}
 
 abbrev pub shared : RabinKarp → Closed
-shared x = rc_value x.tables.book
+shared x = rc_value x.book
 
 abbrev pub searched : RabinKarp → Book
 searched x = book_of (shared x)

@@ -11,11 +11,11 @@ use std::rc::Rc;
 
 pub mod find;
 mod hashes;
-pub mod reads;
 
-/// The tables of a searcher, and the book that they are of.
+/// The searcher that compares a pattern only where the hash of the text's next bytes is that of the pattern's first ones.
+/// The hash moves on with the text, one byte at a time.
 #[derive(Drop)]
-pub struct Tables {
+pub struct RabinKarp {
     book: Rc<Book>,
     buckets: Buckets,
     /// The hash of each pattern's first bytes, at its id.
@@ -24,15 +24,8 @@ pub struct Tables {
     hash_len: usize,
     /// By how much the first of them counts.
     hash_2pow: usize,
-}
-
-/// The searcher that compares a pattern only where the hash of the text's next bytes is that of the pattern's first ones.
-/// The hash moves on with the text, one byte at a time.
-#[derive(Drop)]
-pub struct RabinKarp {
-    tables: Tables,
-    ghost measured: { tables.hash_len ≡ shortest (book_of tables.book.value) },
-    ghost counted: { tables.hash_2pow ≡ leading tables.hash_len },
-    ghost hashed: { (i : ℕ) → i < count_of (book_of tables.book.value) → slice_index tables.hashes i ≡ prefix_hash (book_of tables.book.value) i },
-    ghost placed: { (k : ℕ) → k < 64 → members tables.buckets k ≡ in_bucket (bucket_of (book_of tables.book.value)) (order_in tables.book.value) k },
+    ghost measured: { hash_len ≡ shortest (book_of book.value) },
+    ghost counted: { hash_2pow ≡ leading hash_len },
+    ghost hashed: { (i : ℕ) → i < count_of (book_of book.value) → slice_index hashes i ≡ prefix_hash (book_of book.value) i },
+    ghost placed: { (k : ℕ) → k < 64 → members buckets k ≡ in_bucket (bucket_of (book_of book.value)) (order_in book.value) k },
 }

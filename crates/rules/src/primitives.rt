@@ -2,11 +2,11 @@ ghost use Rattle.std.specs.Prelude.{◌≡◌, if◌then◌else◌, Some, None, 
 ghost use Rattle.rules.specs.Book.{id};
 
 /// A small index, as tables are indexed by it.
-#[derive(Clone, Copy, PartialEq, Eq, Debug)]
+#[derive(Clone, Copy, PartialEq, Eq, Debug, Default)]
 pub struct SmallIndex(pub u32);
 
 /// The name of a pattern: ids rise from 0 in order of entry.
-#[derive(Clone, Copy, PartialEq, Eq, Debug)]
+#[derive(Clone, Copy, PartialEq, Eq, Debug, Default)]
 pub struct PatternID(pub SmallIndex);
 
 impl PatternID {

@@ -1,11 +1,10 @@
-ghost use Rattle.std.specs.Prelude.{◌≡◌, ℕ, ◌%◌, ◌<◌, ◌≤◌, map, length, slice_index, slice_index_or};
-ghost use Rattle.rules.specs.Book.{id};
+ghost use Rattle.std.specs.Prelude.{◌≡◌, ℕ, ◌%◌, ◌<◌, ◌≤◌, map, length, slice_index};
 ghost use Rattle.pattern.specs.Order.{number};
 ghost use Rattle.pattern.specs.Closed.{order_in};
 ghost use Rattle.buckets.specs.Buckets.{members, Holds};
 
 use crate::buckets::Buckets;
-use crate::row::Row;
+use arrayvec::ArrayVec;
 use pattern::book::Book;
 use rules::primitives::PatternID;
 
@@ -23,16 +22,8 @@ impl Buckets {
         ensures { map number result.now ≡ members self.now (key % 64) }
     {
         let k = key % 64;
-        &self.row.ids[self.starts[k]..self.starts[k + 1]]
+        &self.ids[self.starts[k]..self.starts[k + 1]]
     }
-}
-
-/// The id that is tried in the place `i` of an order.
-fn nth(order: &[PatternID], i: usize) -> PatternID
-    requires { i < length order.now }
-    ensures { result ≡ slice_index_or order.now i (id 0) }
-{
-    order[i]
 }
 
 /// The ids of an order by their keys.
@@ -41,16 +32,15 @@ fn group(order: &[PatternID], keys: &[usize; 1024]) -> Buckets
     requires known { (i : ℕ) → i < length order.now → slice_index (map number order.now) i < 1024 }
     ensures { Holds result (λ id. slice_index keys.now id % 64) (map number order.now) }
 {
-    let mut row = Row::new();
+    let mut ids = ArrayVec::new();
     let mut starts = [0; 65];
     for k in 0..64usize {
-        for i in 0..order.len() {
-            let id = nth(order, i);
+        for id in order {
             if keys[id.as_usize()] % 64 == k {
-                row.push(id);
+                ids.push(*id);
             }
         }
-        starts[k + 1] = row.len;
+        starts[k + 1] = ids.len();
     }
-    Buckets { row, starts }
+    Buckets { ids, starts }
 }

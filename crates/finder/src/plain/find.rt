@@ -1,11 +1,10 @@
 ghost use Rattle.std.specs.Prelude.{◌≡◌};
-ghost use Rattle.rules.specs.Search.{found};
 ghost use Rattle.rules.specs.Places.{AnswersAt};
 ghost use Rattle.pattern.specs.Closed.{book_of};
 ghost use Rattle.finder.specs.Plain.{searched};
 ghost use Rattle.std.proofs.Common.{rules};
 
-use crate::compare::stands;
+use crate::compare::verify;
 use crate::finder::Finder;
 use crate::plain::Plain;
 use pattern::book::Book;
@@ -16,14 +15,10 @@ use std::rc::Rc;
 fn find_here(book: &Book, text: &[u8], start: usize) -> Option<Match>
     ensures { AnswersAt (book_of book.now) text.now start result }
 {
+    // the plain loop over the order table goes with its index by a rule of the project
     for (i, id) in book.order().iter().enumerate() {
-        let pattern = book.get(*id);
-        if stands(pattern, text, start) {
-            return Some(Match {
-                pattern: *id,
-                start,
-                end: start + pattern.len(),
-            });
+        if let Some(hit) = verify(book, *id, text, start) {
+            return Some(hit);
         }
     }
     None
@@ -36,18 +31,6 @@ impl Plain {
     {
         Plain { book }
     }
-
-    /// Tries place after place.
-    fn find_from(&self, text: &[u8], at: usize) -> Option<Match>
-        ensures { result ≡ found (searched self.now) text.now at }
-    {
-        for start in at..text.len() {
-            if let Some(hit) = find_here(&self.book, text, start) {
-                return Some(hit);
-            }
-        }
-        None
-    }
 }
 
 impl Finder for Plain {
@@ -59,7 +42,13 @@ impl Finder for Plain {
         self.book.len()
     }
 
+    /// Tries place after place.
     fn find(&self, text: &[u8], at: usize) -> Option<Match> {
-        self.find_from(text, at)
+        for start in at..text.len() {
+            if let Some(hit) = find_here(&self.book, text, start) {
+                return Some(hit);
+            }
+        }
+        None
     }
 }

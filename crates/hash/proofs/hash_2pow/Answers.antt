@@ -1,4 +1,4 @@
-use Rattle.std.proofs.Common.{◌≡◌, ◌+◌, ◌-◌, ◌%◌, ◌^◌, sym, ap, ◌∙◌, arith}
+use Rattle.std.proofs.Common.{◌≡◌, ◌+◌, ◌-◌, ◌^◌, arith}
 use native.Mathlib.Nat.{mul-mod_left}
 use Rattle.std.proofs.lemmas.Nat.{pow-add}
 use Rattle.hash.proofs.hash_2pow.Goals as goal
@@ -7,4 +7,4 @@ pub returns-in_default : goal.returns-in_default
 returns-in_default c =
     let k = c.args.len - 65 in
     let e : c.args.len - 1 ≡ k + 64 = omega arith in
-    sym (ap (λ n. 2 ^ n % 2 ^ 64) e ∙ (ap (λ n. n % 2 ^ 64) (pow-add 2 k 64) ∙ mul-mod_left (2 ^ k) (2 ^ 64)))
+    rw (e, pow-add 2 k 64, mul-mod_left (2 ^ k) (2 ^ 64))

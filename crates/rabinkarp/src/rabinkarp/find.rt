@@ -1,20 +1,19 @@
-ghost use Rattle.std.specs.Prelude.{◌≡◌, MatchOption};
-ghost use Rattle.rules.specs.Book.{pattern, shortest};
-ghost use Rattle.rules.specs.Search.{Stands, hit, Answers};
+ghost use Rattle.std.specs.Prelude.{◌≡◌};
+ghost use Rattle.rules.specs.Book.{shortest};
 ghost use Rattle.rules.specs.Places.{AnswersAt};
 ghost use Rattle.pattern.specs.Closed.{book_of};
 ghost use Rattle.hash.specs.Hash.{hash_of, window};
-ghost use Rattle.rabinkarp.specs.Searched.{searched};
+ghost use Rattle.rabinkarp.specs.Searched.{shared, searched};
 ghost use Rattle.std.proofs.Common.{rules};
 
+use crate::rabinkarp::RabinKarp;
 use crate::rabinkarp::hashes::hashes;
-use crate::rabinkarp::{RabinKarp, Tables};
 use buckets::buckets::Buckets;
-use finder::compare::stands;
+use finder::compare::verify;
 use finder::finder::Finder;
 use hash::{hash, hash_2pow, update_hash};
 use pattern::book::Book;
-use rules::primitives::{Match, PatternID};
+use rules::primitives::Match;
 use std::rc::Rc;
 
 impl RabinKarp {
@@ -27,29 +26,19 @@ impl RabinKarp {
         let hashes = hashes(&book);
         let buckets = Buckets::new(&book, &hashes);
         RabinKarp {
-            tables: Tables {
-                book,
-                buckets,
-                hashes,
-                hash_len,
-                hash_2pow,
-            },
+            book,
+            buckets,
+            hashes,
+            hash_len,
+            hash_2pow,
         }
     }
 
-    /// The match of a pattern at a place, if its bytes stand there.
-    fn verify(&self, id: PatternID, text: &[u8], start: usize) -> Option<Match>
-        ensures { MatchOption result (Stands (pattern (searched self.now) id.0.0) text.now start → ⊥) (λ m. Stands (pattern (searched self.now) id.0.0) text.now start × (m ≡ hit (searched self.now) id.0.0 start)) }
+    /// The closed book that the searcher holds.
+    pub fn book(&self) -> &Book
+        ensures { result.now ≡ shared self.now }
     {
-        let pattern = self.tables.book.get(id);
-        if !stands(pattern, text, start) {
-            return None;
-        }
-        Some(Match {
-            pattern: id,
-            start,
-            end: start + pattern.len(),
-        })
+        &self.book
     }
 
     /// The pattern that is found at one place, where the text's next bytes have a hash: the first of its bucket that stands
@@ -58,32 +47,14 @@ impl RabinKarp {
         requires { hash ≡ hash_of (window text.now (shortest (searched self.now)) start) }
         ensures { AnswersAt (searched self.now) text.now start result }
     {
-        for (i, id) in self.tables.buckets.bucket(hash).iter().enumerate() {
-            if self.tables.hashes[id.as_usize()] == hash {
-                if let Some(hit) = self.verify(*id, text, start) {
+        for id in self.buckets.bucket(hash) {
+            if self.hashes[id.as_usize()] == hash {
+                if let Some(hit) = verify(&self.book, *id, text, start) {
                     return Some(hit);
                 }
             }
         }
         None
-    }
-
-    /// Tries place after place.
-    fn find_from(&self, text: &[u8], at: usize) -> Option<Match>
-        ensures { Answers (searched self.now) text.now at result }
-    {
-        let len = self.tables.hash_len;
-        if at > text.len() || text.len() - at < len {
-            return None;
-        }
-        let mut hash = hash(&text[at..at + len]);
-        for start in at..text.len() - len {
-            if let Some(hit) = self.find_here(text, start, hash) {
-                return Some(hit);
-            }
-            hash = update_hash(hash, self.tables.hash_2pow, text[start], text[start + len]);
-        }
-        self.find_here(text, text.len() - len, hash)
     }
 }
 
@@ -93,10 +64,19 @@ impl Finder for RabinKarp {
     ghost within = { Prim.search rules };
 
     fn pattern_count(&self) -> usize {
-        self.tables.book.len()
+        self.book.len()
     }
 
+    /// Tries place after place.
     fn find(&self, text: &[u8], at: usize) -> Option<Match> {
-        self.find_from(text, at)
+        let len = self.hash_len;
+        let mut hash = hash(text.get(at..)?.get(..len)?);
+        for start in at..text.len() - len {
+            if let Some(hit) = self.find_here(text, start, hash) {
+                return Some(hit);
+            }
+            hash = update_hash(hash, self.hash_2pow, text[start], text[start + len]);
+        }
+        self.find_here(text, text.len() - len, hash)
     }
 }

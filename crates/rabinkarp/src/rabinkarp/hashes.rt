@@ -5,7 +5,6 @@ ghost use Rattle.rabinkarp.specs.Prefixes.{prefix_hash};
 
 use hash::hash;
 use pattern::book::Book;
-use rules::primitives::{PatternID, SmallIndex};
 
 /// The hash of each pattern's first bytes, as many as the shortest pattern has, at its id.
 pub(crate) fn hashes(book: &Book) -> [usize; 1024]
@@ -13,9 +12,8 @@ pub(crate) fn hashes(book: &Book) -> [usize; 1024]
 {
     let len = book.minimum_len();
     let mut hashes = [0; 1024];
-    for i in 0..book.len() {
-        let pattern = book.get(PatternID(SmallIndex(i as u32)));
-        hashes[i] = hash(&pattern[0..len]);
+    for id in book.order() {
+        hashes[id.as_usize()] = hash(&book.get(*id)[..len]);
     }
     hashes
 }

@@ -1,45 +1,24 @@
-use Rattle.std.proofs.Common.{◌≡◌, ℕ, ◌+◌, ◌<◌, length, get_or, sym, refl, ap, ◌∙◌, subst, arith, below_more}
-use Rattle.std.proofs.lemmas.List.{length-map}
-use Rattle.rules.specs.Book.{pattern, Preferred}
-use Rattle.rules.specs.Search.{Stands, OccursAt}
-use Rattle.pattern.specs.Order.{number, ReadingOrder}
+use Rattle.std.proofs.Common.{sym, subst, arith, below_more}
+use Rattle.rules.specs.Book.{pattern}
+use Rattle.rules.specs.Search.{Stands}
+use Rattle.pattern.specs.Order.{ReadingOrder}
 use Rattle.pattern.specs.Closed.{book_of, order_in}
-use Rattle.finder.proofs.Choosing.{read, chosen_first, chosen_none}
+use Rattle.finder.proofs.Choosing.{read, Tried, chosen, none}
 use Rattle.finder.proofs.plain.find.find_here.Goals as goal
 use Rattle.finder.proofs.plain.find.find_here.Goals.{After-order-id-items}
 
-order : (c : After-order-id-items) → ReadingOrder (book_of c.args.book.now) (order_in c.args.book.now)
-order c = subst (ReadingOrder (book_of c.args.book.now)) c.order-id-items.ensures.same c.order-id-items.ensures.order
+order : (c : After-order-id-items) → Tried (book_of c.args.book.now) c.args.text.now c.args.start (order_in c.args.book.now)
+order c =
+    let o = subst (ReadingOrder (book_of c.args.book.now)) c.order-id-items.ensures.same c.order-id-items.ensures.order in
+    record { known = o.known; all = λ j here. o.all j here.known; preferred = o.preferred }
 
-long : (c : After-order-id-items) → length (order_in c.args.book.now) ≡ length c.order-id-items.result.now
-long c = sym (ap length c.order-id-items.ensures.same) ∙ length-map c.order-id-items.result.now number
-
-has : (c : After-order-id-items) (j : ℕ) → OccursAt (book_of c.args.book.now) c.args.text.now j c.args.start → (k : ℕ) × (k < length (order_in c.args.book.now)) × (get_or (order_in c.args.book.now) k 0 ≡ j)
-has c j here = (order c).all j here.known
-
-pub returns-then-stands : goal.returns-then-stands
-returns-then-stands c =
-    let b = c.args.book.now in
-    let a = (goal.at.returns-then-stands c).After-order-id-items in
-    let is = read c.order-id-items.result.now (order_in b) c.loop-i.i c.order-id-items.ensures.same in
-    record {
-      occurs = record {
-        known = omega (arith, is, (order a).known c.loop-i.i (omega (arith, long a, c.loop-i-test.true)));
-        stands = subst (λ q. Stands q c.args.text.now c.args.start) c.get-pattern.ensures c.if-stands.ensures;
-      };
-      start = refl;
-      end = ap (λ q. c.args.start + length q) c.get-pattern.ensures;
-      first = λ j o. subst (λ k. Preferred (book_of b) k j) (sym is) (chosen_first (book_of b) c.args.text.now (order_in b) c.args.start c.loop-i.i (has a) (order a).preferred c.loop-i.invariant j o);
-    }
+pub returns-in-Some : goal.returns-in-Some
+returns-in-Some c = chosen (order (goal.at.returns-in-Some c).After-order-id-items) c.order-id-items.result.now c.order-id-items.ensures.same c.loop-i.i c.loop-i-test.true c.in-Some.ensures.0 c.loop-i.invariant c.in-Some.hit c.in-Some.ensures.1
 
 pub loop-i-preserved : goal.loop-i-preserved
 loop-i-preserved c =
-    let b = c.args.book.now in
-    let is = read c.order-id-items.result.now (order_in b) c.loop-i.i c.order-id-items.ensures.same in
-    below_more _ _ c.loop-i.invariant (λ st. c.if-stands.ensures (subst (λ q. Stands q c.args.text.now c.args.start) (ap (pattern (book_of b)) (sym is) ∙ sym c.get-pattern.ensures) st))
+    let is = read c.order-id-items.result.now (order_in c.args.book.now) c.loop-i.i c.order-id-items.ensures.same in
+    below_more _ _ c.loop-i.invariant (λ st. c.in_default.ensures (subst (λ k. Stands (pattern (book_of c.args.book.now) k) c.args.text.now c.args.start) (sym is) st))
 
 pub returns : goal.returns
-returns c =
-    let b = c.args.book.now in
-    let a = (goal.at.returns c).After-order-id-items in
-    chosen_none (book_of b) c.args.text.now (order_in b) c.args.start (has a) (λ j h. c.loop-i.invariant j (omega (arith, long a, c.loop-i-test.false)))
+returns c = none (order (goal.at.returns c).After-order-id-items) c.order-id-items.result.now c.order-id-items.ensures.same (λ j l. c.loop-i.invariant j (omega (arith, c.loop-i-test.false)))

@@ -1,10 +1,10 @@
-use Rattle.std.proofs.Common.{ℕ, ◌<◌, length, get_or, rc_value, sym, refl, ap, ◌∙◌, subst, arith, below_more}
+use Rattle.std.proofs.Common.{ℕ, ◌<◌, length, get_or, rc_value, sym, ap, ◌∙◌, subst, arith, below_more}
 use Rattle.rules.specs.Book.{id, pattern}
 use Rattle.rules.specs.Search.{Stands}
-use Rattle.rules.specs.Places.{Chosen}
 use Rattle.pattern.specs.Order.{number}
+use Rattle.finder.proofs.Choosing.{read, chosen, none}
 use Rattle.rabinkarp.specs.Searched.{searched}
-use Rattle.rabinkarp.proofs.Bucket.{Opened, read_is, read_known, proposed, first, none}
+use Rattle.rabinkarp.proofs.Bucket.{Opened, ids_of, names, tried, read_known, proposed}
 use Rattle.rabinkarp.proofs.rabinkarp.RabinKarp.find_here.Goals as goal
 use Rattle.rabinkarp.proofs.rabinkarp.RabinKarp.find_here.Goals.{After-bucket-id-items, then-self-as_usize+in_default, else-self-as_usize}
 
@@ -12,33 +12,33 @@ opened : (c : After-bucket-id-items) → Opened c.args.self.now c.args.text.now 
 opened c = record { is = c.requires; same = c.bucket-id-items.ensures }
 
 small : (c : After-bucket-id-items) (i : ℕ) → i < length c.bucket-id-items.result.now → number (get_or c.bucket-id-items.result.now i (id 0)) < 1024
-small c i l = omega (arith, read_known (opened c) i l, (rc_value c.args.self.now.tables.book).few)
+small c i l = omega (arith, read_known (opened c) i l, (rc_value c.args.self.now.book).few)
 
 pub offset_bounds-self-as_usize : goal.offset_bounds-self-as_usize
-offset_bounds-self-as_usize c = omega (arith, c.as_usize.ensures, small (goal.at.offset_bounds-self-as_usize c).After-bucket-id-items c.loop-i.i c.loop-i-test.true)
+offset_bounds-self-as_usize c = omega (arith, c.as_usize.ensures, small (goal.at.offset_bounds-self-as_usize c).After-bucket-id-items c.loop-id.id-index c.loop-id-test.true)
 
 pub bounds-self-as_usize : goal.bounds-self-as_usize
-bounds-self-as_usize c = omega (arith, c.as_usize.ensures, small (goal.at.bounds-self-as_usize c).After-bucket-id-items c.loop-i.i c.loop-i-test.true)
+bounds-self-as_usize c = omega (arith, c.as_usize.ensures, small (goal.at.bounds-self-as_usize c).After-bucket-id-items c.loop-id.id-index c.loop-id-test.true)
 
 pub returns-in-Some : goal.returns-in-Some
 returns-in-Some c =
     let o = opened (goal.at.returns-in-Some c).After-bucket-id-items in
-    subst (Chosen (searched c.args.self.now) c.args.text.now c.args.start) (sym c.in-Some.ensures.1) record {
-      occurs = record { known = read_known o c.loop-i.i c.loop-i-test.true; stands = c.in-Some.ensures.0 };
-      start = refl;
-      end = refl;
-      first = first o c.loop-i.i c.loop-i.invariant;
-    }
+    let e = rw c.deref.ensures at c.in-Some.ensures in
+    chosen (tried o) c.bucket-id-items.result.now (names o) c.loop-id.id-index c.loop-id-test.true e.0 c.loop-id.invariant c.in-Some.hit e.1
 
-pub loop-i-preserved : goal.loop-i-preserved
-loop-i-preserved c =
+pub loop-id-preserved : goal.loop-id-preserved
+loop-id-preserved c =
     let x = c.args.self.now in
-    let i = c.loop-i.i in
-    let o = opened (goal.at.loop-i-preserved c).After-bucket-id-items in
-    below_more _ _ c.loop-i.invariant (λ st. elim c.if-self-as_usize.branch [
-      | then-self-as_usize+in_default w ↦ w.in_default.ensures (subst (λ k. Stands (pattern (searched x) k) c.args.text.now c.args.start) (sym (read_is o i)) st)
-      | else-self-as_usize w ↦ w.if-self-as_usize.false (ap (λ k. get_or x.tables.hashes k 0) c.as_usize.ensures ∙ proposed o i c.loop-i-test.true st)
+    let i = c.loop-id.id-index in
+    let o = opened (goal.at.loop-id-preserved c).After-bucket-id-items in
+    below_more _ _ c.loop-id.invariant (λ st.
+    let here = subst (λ k. Stands (pattern (searched x) k) c.args.text.now c.args.start) (sym (read c.bucket-id-items.result.now (ids_of x c.args.hash) i (names o))) st in
+    elim c.if-self-as_usize.branch [
+      | then-self-as_usize+in_default w ↦ (rw w.deref.ensures at w.in_default.ensures) here
+      | else-self-as_usize w ↦ w.if-self-as_usize.false (ap (λ k. get_or x.hashes k 0) c.as_usize.ensures ∙ proposed o i c.loop-id-test.true here)
     ])
 
 pub returns : goal.returns
-returns c = none (opened (goal.at.returns c).After-bucket-id-items) c.loop-i.i c.loop-i-test.false c.loop-i.invariant
+returns c =
+    let o = opened (goal.at.returns c).After-bucket-id-items in
+    none (tried o) c.bucket-id-items.result.now (names o) (λ j l. c.loop-id.invariant j (omega (arith, c.loop-id-test.false)))

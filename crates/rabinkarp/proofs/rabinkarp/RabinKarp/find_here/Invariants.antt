@@ -5,5 +5,5 @@ use Rattle.rabinkarp.specs.Searched.{searched}
 use Rattle.rabinkarp.proofs.Bucket.{ids_of}
 use Rattle.rabinkarp.proofs.rabinkarp.RabinKarp.find_here.Given as goal
 
-abbrev pub invariant-loop-i : goal.invariant-loop-i
-invariant-loop-i l = (j : ℕ) → j < l.i → Stands (pattern (searched l.self) (get_or (ids_of l.self l.hash) j 0)) l.text l.start → ⊥
+abbrev pub invariant-loop-id : goal.invariant-loop-id
+invariant-loop-id l = (j : ℕ) → j < l.id-index → Stands (pattern (searched l.self) (get_or (ids_of l.self l.hash) j 0)) l.text l.start → ⊥

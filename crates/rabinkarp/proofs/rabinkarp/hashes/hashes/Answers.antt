@@ -1,11 +1,64 @@
-use Rattle.std.proofs.Common.{◌≤◌, length, ap, arith, rules}
-use Rattle.pattern.specs.Closed.{book_of}
+use Rattle.std.proofs.Common.{◌≡◌, ◌<◌, length, get_or, take, set, sym, ap, ◌∙◌, subst, inl, inr, arith}
+use Rattle.std.proofs.lemmas.Bool.{cases_eq}
+use Rattle.std.proofs.lemmas.List.{length-map, length-set, length-take-le, get_or-set_same, get_or-set_other}
+use Rattle.rules.specs.Book.{id, count_of, pattern, shortest}
+use Rattle.pattern.specs.Order.{number, ReadingOrder}
+use Rattle.pattern.specs.Closed.{book_of, order_in}
 use Rattle.pattern.proofs.Shortest.{shortest_le}
+use Rattle.hash.specs.Hash.{hash_of}
+use Rattle.finder.proofs.Choosing.{read}
+use Rattle.rabinkarp.specs.Prefixes.{prefix_hash}
 use Rattle.rabinkarp.proofs.rabinkarp.hashes.hashes.Goals as goal
+use Rattle.rabinkarp.proofs.rabinkarp.hashes.hashes.Goals.{After-order-id-items, In-loop-id}
+
+order : (c : After-order-id-items) → ReadingOrder (book_of c.args.book.now) (order_in c.args.book.now)
+order c = subst (ReadingOrder (book_of c.args.book.now)) c.order-id-items.ensures.same c.order-id-items.ensures.order
+
+long : (c : After-order-id-items) → length (order_in c.args.book.now) ≡ length c.order-id-items.result.now
+long c = sym (ap length c.order-id-items.ensures.same) ∙ length-map c.order-id-items.result.now number
+
+-- the id whose hash is entered is one of the book
+known : (c : In-loop-id) → number (get_or c.order-id-items.result.now c.loop-id.id-index (id 0)) < count_of (book_of c.args.book.now)
+known c =
+    let o = (goal.at.In-loop-id c).After-order-id-items in
+    omega (arith, read c.order-id-items.result.now (order_in c.args.book.now) c.loop-id.id-index c.order-id-items.ensures.same, (order o).known c.loop-id.id-index (omega (arith, long o, c.loop-id-test.true)))
 
 pub slice_bounds-hash-end : goal.slice_bounds-hash-end
 slice_bounds-hash-end c =
     let b = book_of c.args.book.now in
-    let long : c.minimum_len-len.result ≤ length c.get-pattern.result.now =
-    omega (arith, c.minimum_len-len.ensures, shortest_le b c.loop-i.i (omega (arith, c.loop-i-test.true, c.len-i-end.ensures)), ap length c.get-pattern.ensures) in
-    search rules
+    let i = number (get_or c.order-id-items.result.now c.loop-id.id-index (id 0)) in
+    sym (length-take-le c.minimum_len-len.result c.get.result.now (omega (arith, c.minimum_len-len.ensures, shortest_le b i (known (goal.at.slice_bounds-hash-end c).In-loop-id), ap length c.get.ensures)))
+
+pub offset_bounds-hashes-as_usize : goal.offset_bounds-hashes-as_usize
+offset_bounds-hashes-as_usize c = omega (arith, known (goal.at.offset_bounds-hashes-as_usize c).In-loop-id, c.args.book.now.few)
+
+pub bounds-hashes-as_usize : goal.bounds-hashes-as_usize
+bounds-hashes-as_usize c = omega (arith, known (goal.at.bounds-hashes-as_usize c).In-loop-id, c.args.book.now.few)
+
+pub loop-id-preserved : goal.loop-id-preserved
+loop-id-preserved c =
+    let b = book_of c.args.book.now in
+    let ids = order_in c.args.book.now in
+    let hs = c.loop-id.hashes in
+    let k = c.loop-id.id-index in
+    let v = c.as_usize.result in
+    let is : v ≡ get_or ids k 0 = c.as_usize.ensures ∙ read c.order-id-items.result.now ids k c.order-id-items.ensures.same in
+    let value : c.hash.result ≡ prefix_hash b v =
+    c.hash.ensures ∙ (ap (λ n. hash_of (take n c.get.result.now)) c.minimum_len-len.ensures ∙ ap (λ q. hash_of (take (shortest b) q)) (c.get.ensures ∙ ap (pattern b) (sym c.as_usize.ensures))) in
+    let small : v < 1024 = omega (arith, known (goal.at.loop-id-preserved c).In-loop-id, c.args.book.now.few) in
+    record {
+      long = length-set hs v c.hash.result ∙ c.loop-id.invariant.long;
+      hashed = λ j l. elim (cases_eq (get_or ids j 0) v) [
+        | inl e ↦ subst (λ n. get_or (set hs v c.hash.result) n 0 ≡ prefix_hash b n) (sym e) (get_or-set_same hs v c.hash.result 0 (omega (arith, c.loop-id.invariant.long)) ∙ value)
+        | inr ne ↦ elim (cases_eq j k) [
+          | inl e ↦ absurd (ne (ap (λ n. get_or ids n 0) e ∙ sym is))
+          | inr nk ↦ get_or-set_other hs v (get_or ids j 0) c.hash.result 0 ne ∙ c.loop-id.invariant.hashed j (omega (arith, nk))
+        ]
+      ];
+    }
+
+pub returns : goal.returns
+returns c = λ i l.
+    let o = (goal.at.returns c).After-order-id-items in
+    let at = (order o).all i l in
+    subst (λ n. get_or c.loop-id.hashes n 0 ≡ prefix_hash (book_of c.args.book.now) n) at.2 (c.loop-id.invariant.hashed at.0 (omega (arith, long o, at.1, c.loop-id-test.false)))

@@ -1,0 +1,12 @@
+use Rattle.std.proofs.Common.{◌≡◌}
+use Rattle.rules.specs.Book.{shortest}
+use Rattle.hash.specs.Hash.{hash_of, window}
+use Rattle.finder.proofs.Places.{Passed}
+use Rattle.rabinkarp.specs.Searched.{searched}
+use Rattle.rabinkarp.proofs.rabinkarp.find.RabinKarpFinder.find.Given as goal
+
+abbrev pub invariant-loop-start : goal.invariant-loop-start
+invariant-loop-start l = record {
+  hash : l.hash ≡ hash_of (window l.text (shortest (searched l.self)) l.start);
+  passed : Passed (searched l.self) l.text l.at l.start;
+}
