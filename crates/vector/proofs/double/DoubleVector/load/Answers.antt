@@ -1,6 +1,6 @@
 use Rattle.std.proofs.Common.{◌^◌, ◌<◌, length, arith}
 use Rattle.vector.specs.Halves.{loaded_join}
-use Rattle.vector.proofs.double.load.Goals as goal
+use Rattle.vector.proofs.double.DoubleVector.load.Goals as goal
 
 pub returns : goal.returns
 returns g c =
