@@ -15,6 +15,7 @@ pub struct Double<H> {
     high: H,
 }
 
+#[tactic(auto, using(crate::proofs::Doubled::joins))]
 impl<H: Half> Double<H> {
     // The low half takes lanes in from the other vector, the high half from the low one.
     fn shift_in(self, other: Double<H>, count: usize) -> Double<H>
@@ -28,6 +29,7 @@ impl<H: Half> Double<H> {
     }
 }
 
+#[tactic(auto, using(crate::proofs::Doubled::joins))]
 impl<H: Half> Vector for Double<H> {
     ghost count = { 32 };
 
