@@ -1,49 +1,34 @@
 -- What a loop over the lanes of an array has done after i turns.
-use Rattle.std.specs.Prelude.{◌≡◌, ℕ, ◌+◌, ◌-◌, ◌*◌, ◌%◌, ◌^◌, ◌<◌, ◌≤◌, Bool, true, false, ◌&&◌, List, [], ◌∷◌, length, take, ◌==◌, bit_or, slice_set, refl}
-use Rattle.std.proofs.Common.{sym, ap, ◌∙◌, arith, mod-eq_of_lt}
+use denote.Param.Members.{Mut}
+use Rattle.std.specs.Fn.{Called}
+use Rattle.std.specs.Array.{IsFromFnResult, IsFromFnResultFrom}
+use Rattle.std.specs.Prelude.{◌≡◌, ℕ, zero, suc, ◌+◌, ◌-◌, ◌*◌, ◌%◌, ◌^◌, ◌<◌, ◌≤◌, Bool, true, false, ◌&&◌, List, [], ◌∷◌, length, take, ◌==◌, bit_or, slice_set, refl}
+use Rattle.std.proofs.Common.{sym, subst, ⊎_elim, ap, ◌∙◌, arith, mod-eq_of_lt}
 use Rattle.std.proofs.Math.Nat.{pow-le-pow_right}
 use Rattle.std.specs.Int.Bits.{or_add_and}
 use Rattle.std.proofs.lemmas.Nat.{and_le_l, and_le_r, or_shifted}
 use Rattle.std.proofs.lemmas.List.Edits.{fill_by_more}
 use Rattle.std.proofs.lemmas.List.{length-set, take_more}
+use Rattle.std.proofs.lemmas.Bool.{cases_lt}
 use Rattle.std.proofs.lemmas.Bool.Decides.{nat_tests}
 use Rattle.vector.specs.Lanes.{lane, row, all_zero, number}
 use Rattle.vector.specs.Rows.{row_is}
 use Rattle.vector.proofs.Numbers.{zero-append, number_more, number_lt}
 
--- an array of sixteen whose first i are those of f
-abbrev pub Filling : (ℕ → ℕ) → ℕ → List ℕ → Type 0
-Filling f i xs = (length xs ≡ 16) × ((k : ℕ) → k < i → lane xs k ≡ f k)
+-- what `from_fn` makes of a closure that no call changes
+module _ {F : Type 0} (g : Mut F (ℕ × Unit {0}) ℕ) (f : F) (h : ℕ → ℕ) (each : (i y : ℕ) (f' : F) → i < 16 → Called g f (i, tt) y f' → (y ≡ h i) × (f' ≡ f)) where
+  made_from : (xs : List ℕ) (i n : ℕ) → i + n ≤ 16 → IsFromFnResultFrom g f xs i n → (k : ℕ) → i ≤ k → k < i + n → lane xs k ≡ h k
+  made_from xs i zero le m k low high = absurd (omega arith)
+  made_from xs i (suc n) le m k low high =
+      let one = each i m.1 m.0 (omega arith) m.3 in
+      let rest = subst (λ (q : F). IsFromFnResultFrom g q xs (i + 1) n) one.1 m.4 in
+      ⊎_elim
+      (λ (l : k < i + 1). let e : k ≡ i = omega arith in rw e (m.2.1 0 ∙ one.0))
+      (λ (r : i + 1 ≤ k). made_from xs (i + 1) n (omega arith) rest k r (omega arith))
+      (cases_lt k (i + 1))
 
-pub filling_more : (f : ℕ → ℕ) (i : ℕ) (xs : List ℕ) (v : ℕ) → i < 16 → v ≡ f i → Filling f i xs → Filling f (i + 1) (slice_set xs i v)
-filling_more f i xs v h e inv =
-    let within : i < length xs = omega (arith, inv.0) in
-    rw e (length-set xs i (f i) ∙ inv.0, fill_by_more f xs i 0 within inv.1)
-
-pub filling_done : (f : ℕ → ℕ) (i : ℕ) (xs : List ℕ) → 16 ≤ i → Filling f i xs → xs ≡ row 16 f
-filling_done f i xs h inv = row_is 16 f xs inv.0 (λ k lt. inv.1 k (omega arith))
-
-and_true : (a : Bool) → (a && true) ≡ a
-and_true true = refl
-and_true false = refl
+pub made_row : {F : Type 0} {g : Mut F (ℕ × Unit {0}) ℕ} {f : F} {h : ℕ → ℕ} {xs : List ℕ} → IsFromFnResult g f xs 16 → ((i y : ℕ) (f' : F) → i < 16 → Called g f (i, tt) y f' → (y ≡ h i) × (f' ≡ f)) → xs ≡ row 16 h
+made_row {F} {g} {f} {h} {xs} m each = row_is 16 h xs m.long (λ k lt. made_from g f h each xs 0 16 (omega arith) m.each k (omega arith) (omega arith))
 
 pub or_is_zero : (a b : ℕ) → (bit_or a b == 0) ≡ (a == 0) && b == 0
 or_is_zero a b = let s = or_add_and a b in let l = and_le_l a b in let r = and_le_r a b in grind (arith, nat_tests)
-
-pub zero_more : (xs : List ℕ) (i any : ℕ) → i < length xs → (any == 0) ≡ all_zero (take i xs) → (bit_or any (lane xs i) == 0) ≡ all_zero (take (i + 1) xs)
-zero_more xs i any h e =
-    or_is_zero any (lane xs i) ∙ ap (λ b. b && lane xs i == 0) e ∙ sym (ap all_zero (take_more xs i 0 h) ∙ zero-append (take i xs) (lane xs i ∷ []) ∙ ap (λ b. all_zero (take i xs) && b) (and_true (lane xs i == 0)))
-
--- one byte more in front, as a loop from the last byte down has it
-pub number_step : (xs : List ℕ) → ((i : ℕ) → lane xs i < 256) → (k i n : ℕ) → 0 < i → i ≤ 8 → n ≡ number (8 - i) xs (k + i)
-    → bit_or (n * 256 % 2 ^ 64) (lane xs (k + (i - 1))) ≡ number (8 - (i - 1)) xs (k + (i - 1))
-number_step xs b k i n pos le e =
-    let x = lane xs (k + (i - 1)) in
-    let few : 8 - i ≤ 7 = omega arith in
-    let small : n < 256 ^ 7 = omega (arith, e, number_lt (8 - i) xs (k + i) b, pow-le-pow_right {n = 256} (omega arith) few) in
-    let fits : n * 256 < 2 ^ 64 = omega arith in
-    let joined : bit_or (n * 256 % 2 ^ 64) x ≡ n * 256 + x = rw (mod-eq_of_lt fits) (or_shifted n 8 x (b (k + (i - 1)))) in
-    let one : 8 - (i - 1) ≡ (8 - i) + 1 = omega arith in
-    let next : (k + (i - 1)) + 1 ≡ k + i = omega arith in
-    let more : number (8 - (i - 1)) xs (k + (i - 1)) ≡ x + 256 * number (8 - i) xs (k + i) = rw one (number_more (8 - i) xs (k + (i - 1)) ∙ ap (λ p. x + 256 * number (8 - i) xs p) next) in
-    joined ∙ sym (more ∙ rw (sym e) (omega arith))
