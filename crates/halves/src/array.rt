@@ -23,20 +23,20 @@ impl ArrayHalf {
         ArrayHalf { bytes }
     }
 
-    fn of(lanes: u8x16) -> ArrayHalf
+    fn from_simd(lanes: u8x16) -> ArrayHalf
         ensures { result.bytes ≡ lanes }
     {
         ArrayHalf::new(lanes.to_array())
     }
 
-    fn wide(self) -> u8x16
+    fn to_simd(self) -> u8x16
         ensures { result ≡ self.bytes }
     {
         u8x16::from_array(self.bytes)
     }
 }
 
-#[tactic(auto, using(crate::proofs::Wide::wide))]
+#[tactic(auto, using(crate::proofs::Simd::simd_rows))]
 impl Half for ArrayHalf {
     ghost lanes = { λ h. h.bytes };
 
@@ -45,7 +45,7 @@ impl Half for ArrayHalf {
     ghost bytes = { Prim.search rules };
 
     fn splat(byte: u8) -> ArrayHalf {
-        ArrayHalf::of(u8x16::splat(byte))
+        ArrayHalf::from_simd(u8x16::splat(byte))
     }
 
     fn load(s: &[u8], at: usize) -> ArrayHalf {
@@ -57,24 +57,24 @@ impl Half for ArrayHalf {
     }
 
     fn is_zero(self) -> bool {
-        self.wide().reduce_or() == 0
+        self.to_simd().reduce_or() == 0
     }
 
     fn cmpeq(self, other: ArrayHalf) -> ArrayHalf {
-        let equal = self.wide().simd_eq(other.wide());
-        ArrayHalf::of(equal.select(u8x16::splat(0xff), u8x16::splat(0)))
+        let equal = self.to_simd().simd_eq(other.to_simd());
+        ArrayHalf::from_simd(equal.select(u8x16::splat(0xff), u8x16::splat(0)))
     }
 
     fn and(self, other: ArrayHalf) -> ArrayHalf {
-        ArrayHalf::of(self.wide() & other.wide())
+        ArrayHalf::from_simd(self.to_simd() & other.to_simd())
     }
 
     fn or(self, other: ArrayHalf) -> ArrayHalf {
-        ArrayHalf::of(self.wide() | other.wide())
+        ArrayHalf::from_simd(self.to_simd() | other.to_simd())
     }
 
     fn shift_right_four(self) -> ArrayHalf {
-        ArrayHalf::of(self.wide() >> u8x16::splat(4))
+        ArrayHalf::from_simd(self.to_simd() >> u8x16::splat(4))
     }
 
     fn shift_in(self, other: ArrayHalf, count: usize) -> ArrayHalf {
@@ -85,13 +85,13 @@ impl Half for ArrayHalf {
 
     // An index above 15 becomes 128, at which the lane is 0.
     fn shuffle_bytes(self, indices: ArrayHalf) -> ArrayHalf {
-        let at = indices.wide();
+        let at = indices.to_simd();
         let at = at.simd_lt(u8x16::splat(16)).select(at, u8x16::splat(128));
-        ArrayHalf::of(self.wide().swizzle_dyn(at))
+        ArrayHalf::from_simd(self.to_simd().swizzle_dyn(at))
     }
 
     fn lane_64(self, k: usize) -> u64 {
-        let words = u64x2::from_le_bytes(self.wide()).to_array();
+        let words = u64x2::from_le_bytes(self.to_simd()).to_array();
         words.get(k).copied().unwrap_or(0)
     }
 }

@@ -14,6 +14,7 @@ pub struct WordHalf {
     high: u64,
 }
 
+#[tactic(auto, using(crate::proofs::Words::words))]
 impl WordHalf {
     fn pack(lanes: ArrayHalf) -> WordHalf
         ensures { held result ≡ lanes.bytes }
@@ -35,6 +36,7 @@ impl WordHalf {
     }
 }
 
+#[tactic(auto, using(crate::proofs::Words::words))]
 impl Half for WordHalf {
     ghost lanes = { held };
 

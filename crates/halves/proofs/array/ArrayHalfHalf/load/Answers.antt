@@ -1,6 +1,6 @@
 use Rattle.std.proofs.Common.{◌∙◌, rules}
-use Rattle.halves.specs.Loops.{made_row}
-use Rattle.halves.proofs.Wide.{front_row, rest_lane}
+use Rattle.halves.proofs.Simd.{made_row}
+use Rattle.halves.proofs.Simd.{front_row, rest_lane}
 use Rattle.halves.proofs.array.ArrayHalfHalf.load.Goals as goal
 
 pub returns-in-Some : goal.returns-in-Some

@@ -1,5 +1,5 @@
 use Rattle.std.proofs.Common.{◌∙◌, rules}
-use Rattle.halves.specs.Loops.{made_row}
+use Rattle.halves.proofs.Simd.{made_row}
 use Rattle.halves.proofs.array.ArrayHalfHalf.shift_in.Goals as goal
 
 pub returns : goal.returns

@@ -1,5 +1,5 @@
 use Rattle.std.proofs.Common.{◌∙◌, rules}
-use Rattle.halves.proofs.Wide.{words_held}
+use Rattle.halves.proofs.Simd.{words_held}
 use Rattle.halves.proofs.word.WordHalf.unpack.Goals as goal
 
 pub returns : goal.returns

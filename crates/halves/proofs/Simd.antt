@@ -1,10 +1,13 @@
--- The operations of `std::simd` on sixteen bytes, as rows of lanes.
+-- The operations of `std::simd` on sixteen bytes, as rows of lanes, and an array that `from_fn` makes.
+use denote.Param.Members.{Mut}
 use lib.Lanes.{chunk, zip2, sel_l, fold_l, number_l, digits_l, top, Each1}
 use lib.Bits.{bit_and, bit_or}
 use mir.Syntax.{w8}
 use mir.Val.{zeroes}
 use lib.Dec.{T}
-use Rattle.std.proofs.Common.{subst, min,  ◌≡◌, ℕ, zero, suc, ◌+◌, ◌-◌, ◌*◌, ◌/◌, ◌%◌, ◌^◌, ◌<◌, ◌≤◌, Bool, true, false, cond, ◌&&◌, ◌||◌, eqb, ltb, leb, List, [], ◌∷◌, ◌++◌, map, length, replicate, get_or, take, drop, refl, sym, ap, ◌∙◌, ⊎_elim, arith}
+use Rattle.std.specs.Fn.{Called}
+use Rattle.std.specs.Array.{IsFromFnResult, IsFromFnResultFrom}
+use Rattle.std.proofs.Common.{subst, min, ◌≡◌, ℕ, zero, suc, ◌+◌, ◌-◌, ◌*◌, ◌/◌, ◌%◌, ◌^◌, ◌<◌, ◌≤◌, Bool, true, false, cond, ◌&&◌, ◌||◌, eqb, ltb, leb, List, [], ◌∷◌, ◌++◌, map, length, replicate, get_or, take, drop, refl, sym, ap, ◌∙◌, ⊎_elim, arith}
 use Rattle.std.proofs.lemmas.Simd.{length-zip2, get_or-zip2, zip2_splat, get_or-sel_l, length-sel_l, tops_compared, get_or-replicate, swz_l, SwzOk, get_or-swz_l, length-swz_l, SwzOk-from_Each1, Each1-from_get_or, get_or_wider, get_or_narrower}
 use Rattle.std.proofs.lemmas.List.{get_or_past, get_or-drop, get_or-take, length-take-le, length-drop, take_all, drop_more}
 use Rattle.std.proofs.lemmas.Bool.{cases_lt}
@@ -14,7 +17,7 @@ use Rattle.vector.specs.Lanes.{lane, row, splatted, loaded, all_zero, anded, ore
 use Rattle.vector.proofs.Numbers.{and_assoc, number_past}
 use Rattle.vector.specs.Rows.{length-row, lane_row, row_is, row_ext}
 use Rattle.halves.specs.Words.{word_lanes}
-use Rattle.halves.specs.Loops.{or_is_zero}
+use Rattle.halves.specs.WordsLemmas.{or_is_zero}
 
 zip2_row : (f : ℕ → ℕ → ℕ) (xs ys : List ℕ) → length xs ≡ 16 → length ys ≡ 16 → zip2 f xs ys ≡ row 16 (λ i. f (lane xs i) (lane ys i))
 zip2_row f xs ys lx ly = row_is 16 _ (zip2 f xs ys) (length-zip2 f xs ys (omega arith) ∙ lx) (λ k lt. get_or-zip2 f xs ys k 0 0 0 (omega arith) (omega arith))
@@ -161,4 +164,19 @@ module _ (s : List ℕ) (p m : ℕ) (e : m ≡ min p (length s)) where
   pub front_row : 16 ≤ length (take (length s - m) (drop m s)) → take 16 (take (length s - m) (drop m s)) ≡ loaded 16 s p
   front_row h = row_is 16 _ _ (length-take-le 16 _ h) (λ k lt. get_or-take 16 (take (length s - m) (drop m s)) k 0 lt ∙ rest_lane k)
 
-pub ruleset wide = (splat_row, and_row, or_row, shift_row, equal_row, zero_row)
+-- what `from_fn` makes of a closure that no call changes
+module _ {F : Type 0} (g : Mut F (ℕ × Unit {0}) ℕ) (f : F) (h : ℕ → ℕ) (each : (i y : ℕ) (f' : F) → i < 16 → Called g f (i, tt) y f' → (y ≡ h i) × (f' ≡ f)) where
+  made_from : (xs : List ℕ) (i n : ℕ) → i + n ≤ 16 → IsFromFnResultFrom g f xs i n → (k : ℕ) → i ≤ k → k < i + n → lane xs k ≡ h k
+  made_from xs i zero le m k low high = absurd (omega arith)
+  made_from xs i (suc n) le m k low high =
+      let one = each i m.1 m.0 (omega arith) m.3 in
+      let rest = subst (λ (q : F). IsFromFnResultFrom g q xs (i + 1) n) one.1 m.4 in
+      ⊎_elim
+      (λ (l : k < i + 1). let e : k ≡ i = omega arith in rw e (m.2.1 0 ∙ one.0))
+      (λ (r : i + 1 ≤ k). made_from xs (i + 1) n (omega arith) rest k r (omega arith))
+      (cases_lt k (i + 1))
+
+pub made_row : {F : Type 0} {g : Mut F (ℕ × Unit {0}) ℕ} {f : F} {h : ℕ → ℕ} {xs : List ℕ} → IsFromFnResult g f xs 16 → ((i y : ℕ) (f' : F) → i < 16 → Called g f (i, tt) y f' → (y ≡ h i) × (f' ≡ f)) → xs ≡ row 16 h
+made_row {F} {g} {f} {h} {xs} m each = row_is 16 h xs m.long (λ k lt. made_from g f h each xs 0 16 (omega arith) m.each k (omega arith) (omega arith))
+
+pub ruleset simd_rows = (splat_row, and_row, or_row, shift_row, equal_row, zero_row)
