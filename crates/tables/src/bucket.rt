@@ -10,19 +10,14 @@ use rules::primitives::{PatternID, SmallIndex};
 pub(crate) fn byte_at(pattern: &[u8], j: usize) -> u8
     ensures { result ≡ slice_index pattern.now j }
 {
-    if j < pattern.len() { pattern[j] } else { 0 }
+    pattern.get(j).copied().unwrap_or(0)
 }
 
 /// Whether the first `n` low nybbles of two patterns are equal.
 fn same_front(a: &[u8], b: &[u8], n: usize) -> bool
     ensures { MatchBool result (Alike a.now b.now n) (Alike a.now b.now n → ⊥) }
 {
-    for k in 0..n {
-        if byte_at(a, k) % 16 != byte_at(b, k) % 16 {
-            return false;
-        }
-    }
-    true
+    (0..n).all(|k| byte_at(a, k) % 16 == byte_at(b, k) % 16)
 }
 
 /// The index of the first id in the kind's order whose pattern has the low nybbles of a pattern; 0 where there is none.
