@@ -17,12 +17,10 @@ use Rattle.tables.proofs.Marking.{sets}
 -- the first of an order that is alike is the leader
 leader_first : (b : Book) (p ids : List ℕ) (i : ℕ) → i < length ids → Alike (pattern b (get_or ids i 0)) p (front b)
     → ((j : ℕ) → j < i → Alike (pattern b (get_or ids j 0)) p (front b) → ⊥) → leader b ids p ≡ get_or ids i 0
-unfolding leader
 leader_first b p [] i h same before = absurd (omega arith)
-leader_first b p (x ∷ xs) zero h same before = cond-true (alike (pattern b x) p (front b)) x (leader b xs p) ((decides_alike (pattern b x) p (front b)).1 same)
+leader_first b p (x ∷ xs) zero h same before = rw ((decides_alike (pattern b x) p (front b)).1 same) refl
 leader_first b p (x ∷ xs) (suc i) h same before =
-    cond-false (alike (pattern b x) p (front b)) x (leader b xs p) (unlike (pattern b x) p (front b) (before 0 (omega arith)))
-    ∙ leader_first b p xs i (omega arith) same (λ j l. before (suc j) (omega arith))
+    rw (unlike (pattern b x) p (front b) (before 0 (omega arith))) (leader_first b p xs i (omega arith) same (λ j l. before (suc j) (omega arith)))
 
 pub buckets_stand : BucketsStand
 buckets_stand b ids = record {

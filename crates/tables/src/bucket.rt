@@ -25,12 +25,10 @@ fn leader_of(book: &Book, pattern: &[u8]) -> usize
     ensures { result ≡ leader (book_of book.now) (order_in book.now) pattern.now }
 {
     let n = book.minimum_len().min(4);
-    for (i, other) in book.order().iter().enumerate() {
-        if same_front(book.get(*other), pattern, n) {
-            return other.as_usize();
-        }
-    }
-    0
+    book.order()
+        .iter()
+        .find(|id| same_front(book.get(**id), pattern, n))
+        .map_or(0, |id| id.as_usize())
 }
 
 /// The bucket of a pattern: that of the first one in the kind's order with its low nybbles. Patterns that can stand at one
