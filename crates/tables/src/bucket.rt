@@ -5,6 +5,7 @@ ghost use Rattle.tables.specs.Buckets.{Alike, leader, bucket_of};
 
 use pattern::book::Book;
 use rules::primitives::{PatternID, SmallIndex};
+use std::array;
 
 /// A byte of a pattern, 0 past its end.
 pub(crate) fn byte_at(pattern: &[u8], j: usize) -> u8
@@ -43,9 +44,11 @@ fn bucket_of(book: &Book, id: PatternID) -> usize
 pub fn assign(book: &Book) -> [usize; 1024]
     ensures { (i : ℕ) → slice_index result i ≡ (if nat_lt i (count_of (book_of book.now)) then bucket_of (book_of book.now) (order_in book.now) i else 0) }
 {
-    let mut buckets = [0; 1024];
-    for i in 0..book.len() {
-        buckets[i] = bucket_of(book, PatternID(SmallIndex(i as u32)));
-    }
-    buckets
+    array::from_fn(|i| {
+        if i < book.len() {
+            bucket_of(book, PatternID(SmallIndex(i as u32)))
+        } else {
+            0
+        }
+    })
 }
