@@ -33,12 +33,3 @@ leader_same b p q (x ∷ xs) e =
     (Decides-like {P = Alike (pattern b x) p n} (alike (pattern b x) p n) (λ h k l. h k l ∙ e k l) (λ h k l. h k l ∙ sym (e k l)) (decides_alike (pattern b x) p n))
     (decides_alike (pattern b x) q n) in
     grind (arith, t, leader_same b p q xs e)
-
--- a table with nothing in it
-zeros : (n k : ℕ) → get_or (replicate {A = ℕ} n 0) k 0 ≡ 0
-zeros zero k = refl
-zeros (suc n) zero = refl
-zeros (suc n) (suc k) = zeros n k
-
-pub none_assigned : (f : ℕ → ℕ) (k : ℕ) → get_or (replicate {A = ℕ} 1024 0) k 0 ≡ cond (ltb k 0) (f k) 0
-none_assigned f k = zeros 1024 k ∙ sym (cond-false (ltb k 0) (f k) 0 (grind (arith, nat_tests)))
