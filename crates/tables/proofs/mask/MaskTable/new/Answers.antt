@@ -1,8 +1,9 @@
 use Rattle.std.proofs.Common.{◌≡◌, ℕ, ◌*◌, ◌/◌, ◌%◌, ◌^◌, ◌<◌, ◌≤◌, length, get_or, take, ap, ◌∙◌, arith}
 use lib.Bits.{bit_or}
+use lib.ListN.{get_or-map}
 use Rattle.std.proofs.lemmas.Nat.{one_shl}
 use Rattle.std.proofs.lemmas.List.{length-map, take_all}
-use Rattle.rules.specs.Book.{pattern}
+use Rattle.rules.specs.Book.{id, pattern}
 use Rattle.pattern.specs.Order.{number}
 use Rattle.pattern.specs.Closed.{book_of, order_in}
 use Rattle.finder.proofs.Choosing.{read}
@@ -16,10 +17,7 @@ use Rattle.tables.proofs.mask.MaskTable.new.Goals.{After-as_usize}
 known : (c : After-as_usize) → c.as_usize.result < 1024
 known c =
     let xs = c.order-id-items.result.now in
-    let ids = order_in c.args.book.now in
-    let is = read xs ids c.loop-id.id-index c.order-id-items.ensures.same in
-    let same = ap (λ q. get_or q c.loop-id.id-index 0) c.order-id-items.ensures.same in
-    omega (arith, c.as_usize.ensures, is, same, c.order-id-items.ensures.order.known c.loop-id.id-index (omega (arith, length-map xs number)), c.args.book.now.few)
+    omega (arith, c.as_usize.ensures, get_or-map number xs c.loop-id.id-index (id 0), c.order-id-items.ensures.order.known c.loop-id.id-index (omega (arith, length-map xs number)), c.args.book.now.few)
 
 pub offset_bounds-buckets-as_usize : goal.offset_bounds-buckets-as_usize
 offset_bounds-buckets-as_usize c = omega (arith, known (goal.at.offset_bounds-buckets-as_usize c).After-as_usize)
