@@ -1,7 +1,6 @@
 -- The first pattern of an order with given low nybbles.
-use Rattle.std.proofs.Common.{◌≡◌, ℕ, zero, suc, ◌+◌, ◌%◌, ◌<◌, Bool, true, false, cond, eqb, ltb, List, [], ◌∷◌, map, Some, get_or, replicate, find, option_map, MatchBool, Decides, sym, refl, ap, ◌∙◌, arith}
-use Rattle.std.proofs.lemmas.Bool.{cond-true, cond-false}
-use Rattle.std.proofs.lemmas.Bool.Decides.{Decides-eqb, Decides-below_and, same_from_decides, Decides-like, nat_tests}
+use Rattle.std.proofs.Common.{◌≡◌, ℕ, zero, suc, ◌%◌, Bool, true, false, cond, eqb, List, [], ◌∷◌, map, Some, get_or, find, option_map, MatchBool, Decides, sym, refl, arith}
+use Rattle.std.proofs.lemmas.Bool.Decides.{Decides-eqb, Decides-below_and, same_from_decides}
 use Rattle.rules.specs.Book.{Book, pattern}
 use Rattle.tables.specs.Buckets.{Alike, alike, front, leader}
 
@@ -10,8 +9,7 @@ decides_alike p q n =
     Decides-below_and (λ k. eqb (get_or p k 0 % 16) (get_or q k 0 % 16)) (λ k. get_or p k 0 % 16 ≡ get_or q k 0 % 16) (alike p q) (λ k. Decides-eqb (get_or p k 0 % 16) (get_or q k 0 % 16)) refl (λ _. refl) n
 
 pub unlike : (p q : List ℕ) (n : ℕ) → (Alike p q n → ⊥) → alike p q n ≡ false
-unlike p q n none =
-    same_from_decides {P = ⊥} (alike p q n) false (Decides-like {Q = ⊥} (alike p q n) none (λ z. absurd z) (decides_alike p q n)) ((λ e. absurd (let z : ◌≡◌ {A = ℕ} 0 1 = cc in omega arith)), (λ z. absurd z))
+unlike p q n none = same_from_decides (alike p q n) false (decides_alike p q n) ((λ e. cc), (λ s. absurd (none s)))
 
 -- a test's answer, by the fact that it tests
 pub alike_is : (p q : List ℕ) (n : ℕ) (r : Bool) → MatchBool r (Alike p q n) (Alike p q n → ⊥) → r ≡ alike p q n
@@ -23,13 +21,11 @@ pub find-map : {X : Type 0} (f : X → ℕ) (test : ℕ → Bool) (xs : List X) 
 find-map f test [] = refl
 find-map f test (x ∷ xs) = elim (test (f x)) as (λ t. cond t (Some (f x)) (find test (map f xs)) ≡ option_map f (cond t (Some x) (find (λ y. test (f y)) xs))) [ true ↦ refl | false ↦ find-map f test xs ]
 
+alike_same : (x p q : List ℕ) (n : ℕ) → Alike p q n → alike x p n ≡ alike x q n
+alike_same x p q zero e = refl
+alike_same x p q (suc n) e = rw (e n (omega arith), alike_same x p q n (λ k l. e k (omega arith))) refl
+
 -- the leader depends on the low nybbles alone
 pub leader_same : (b : Book) (p q ids : List ℕ) → Alike p q (front b) → leader b ids p ≡ leader b ids q
 leader_same b p q [] e = refl
-leader_same b p q (x ∷ xs) e =
-    let n = front b in
-    let t : alike (pattern b x) p n ≡ alike (pattern b x) q n =
-    same_from_decides {P = Alike (pattern b x) q n} (alike (pattern b x) p n) (alike (pattern b x) q n)
-    (Decides-like {P = Alike (pattern b x) p n} (alike (pattern b x) p n) (λ h k l. h k l ∙ e k l) (λ h k l. h k l ∙ sym (e k l)) (decides_alike (pattern b x) p n))
-    (decides_alike (pattern b x) q n) in
-    grind (arith, t, leader_same b p q xs e)
+leader_same b p q (x ∷ xs) e = grind (arith, alike_same (pattern b x) p q (front b) e, leader_same b p q xs e)

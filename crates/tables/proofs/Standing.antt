@@ -1,13 +1,12 @@
 -- The buckets and the masks follow their rules.
-use Rattle.std.proofs.Common.{◌≡◌, ℕ, zero, suc, ◌+◌, ◌-◌, ◌*◌, ◌/◌, ◌%◌, ◌^◌, ◌<◌, ◌≤◌, cond, eqb, ◌⊎◌, ◌↔◌, List, [], ◌∷◌, length, get_or, fold, sym, refl, ap, ◌∙◌, subst, inl, inr, ⊎_elim, arith}
+use Rattle.std.proofs.Common.{◌≡◌, ℕ, zero, suc, ◌-◌, ◌/◌, ◌%◌, ◌<◌, ◌↔◌, List, [], ◌∷◌, length, get_or, sym, refl, ap, inr, ⊎_elim, arith}
 use lib.Bits.{bit_and}
 use Rattle.std.proofs.lemmas.Nat.Bits.{bit_at_and, bit_at-zero}
-use Rattle.std.proofs.lemmas.Bool.{cases_lt, cases_Bool, eqb-true, cond-true, cond-false}
 use Rattle.bits.specs.Digits.{IsSet}
 use Rattle.vector.specs.Lanes.{lane, row}
 use Rattle.vector.specs.Rows.{lane_row}
 use Rattle.rules.specs.Book.{Book, pattern}
-use Rattle.tables.specs.Buckets.{Alike, alike, front, leader}
+use Rattle.tables.specs.Buckets.{Alike, front, leader}
 use Rattle.tables.specs.Masks.{byte_of, marks, low_mask, high_mask}
 use Rattle.tables.specs.Rules.{Bears, BucketsStand, MasksStand}
 use Rattle.tables.proofs.Fronts.{decides_alike, unlike, leader_same}

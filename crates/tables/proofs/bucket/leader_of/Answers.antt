@@ -1,4 +1,4 @@
-use Rattle.std.proofs.Common.{◌≡◌, ℕ, Bool, List, Option, Some, None, rules, tests, option_map, find, unwrap_or, ap, sym, ◌∙◌, map, Bor, MatchOption, arith}
+use Rattle.std.proofs.Common.{◌≡◌, ℕ, Bool, List, Option, Some, None, rules, tests, option_map, find, unwrap_or, ap, ◌∙◌, map, Bor, MatchOption, arith}
 use Rattle.std.proofs.lemmas.Iterator.{YieldsList-from_slice}
 use Rattle.std.proofs.lemmas.Iterator.Search.{find_from_yields_List}
 use Rattle.rules.specs.declared.primitives.PatternID.{PatternID}
