@@ -10,12 +10,5 @@ use vector::vector::Vector;
 pub fn window<V: Vector>(text: &[u8], at: usize, masks: &Masks<V>, seen: &mut Seen<V>) -> V
     ensures { Exact V.count V.lanes masks.now at text.now seen.old result seen.new }
 {
-    loaded_window(text, at, masks, seen)
-}
-
-/// Loads the window, and asks for its candidates.
-fn loaded_window<V: Vector>(text: &[u8], at: usize, masks: &Masks<V>, seen: &mut Seen<V>) -> V
-    ensures { Exact V.count V.lanes masks.now at text.now seen.old result seen.new }
-{
     candidate(V::load(text, at), masks, seen)
 }

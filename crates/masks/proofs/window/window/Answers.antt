@@ -6,7 +6,7 @@ use Rattle.masks.specs.Candidates.{kept}
 use Rattle.masks.specs.Places.{Shows, Recalls}
 use Rattle.masks.proofs.Exact.{Sees, newer, shows, recalls}
 use Rattle.masks.proofs.Loaded.{sees}
-use Rattle.masks.proofs.window.loaded_window.Goals as goal
+use Rattle.masks.proofs.window.window.Goals as goal
 
 pub returns : goal.returns
 returns g c b ids key low of le saw =
