@@ -1,10 +1,10 @@
 use Rattle.std.proofs.Common.{◌≡◌, false, eqb, arith}
 use Rattle.std.proofs.lemmas.Bool.Decides.{nat_tests}
-use Rattle.masks.proofs.candidate.candidate.Goals as goal
+use Rattle.masks.proofs.candidate.Masks.candidate.Goals as goal
 
 pub returns-in_default : goal.returns-in_default
 returns-in_default g c =
-    let n = c.args.masks.now.count in
+    let n = c.args.self.now.count in
     let e₁ : eqb n 1 ≡ false = grind (arith, nat_tests) in
     let e₂ : eqb n 2 ≡ false = grind (arith, nat_tests) in
     let e₃ : eqb n 3 ≡ false = grind (arith, nat_tests) in
