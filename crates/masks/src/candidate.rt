@@ -8,6 +8,7 @@ use crate::mask::Mask;
 use vector::vector::Vector;
 
 /// The masks of a searcher, of which the first `count` are used, and all four for any other count than 1 to 3.
+// Named masks beside their count, and no slice of masks: a rule of the project.
 #[derive(Clone, Copy)]
 pub struct Masks<V> {
     pub count: usize,
@@ -50,6 +51,7 @@ impl<V: Vector> Masks<V> {
         ensures second { V.lanes seen.new.second ≡ kept self.now.count 2 (V.lanes seen.old.second) (admitted V.count V.lanes self.now.second (V.lanes chunk)) }
         ensures third { V.lanes seen.new.third ≡ kept self.now.count 3 (V.lanes seen.old.third) (admitted V.count V.lanes self.now.third (V.lanes chunk)) }
     {
+        // One search for every mask count: a rule of the project.
         match self.count {
             1 => Mask::members1(chunk, self.first),
             2 => {

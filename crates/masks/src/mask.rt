@@ -56,6 +56,7 @@ impl<V: Vector> Mask<V> {
         locand.and(hicand)
     }
 
+    // A function for each number of masks, which answers a tuple: a rule of the project.
     /// The same for two masks.
     pub fn members2(chunk: V, first: Mask<V>, second: Mask<V>) -> (V, V)
         ensures one { V.lanes result.0 ≡ admitted V.count V.lanes first (V.lanes chunk) }
