@@ -92,8 +92,11 @@ module _ (admits : ℕ → ℕ → ℕ → Type 0) (n : ℕ) (text : List ℕ) w
         ((λ s _. a.0 s), (λ t. a.1 (t (omega arith))))
 
   -- before the first window nothing was loaded
-  pub blank : (at j : ℕ) (p : List ℕ) → p ≡ splatted n 255 → Recalls admits at n at text j p
-  blank at j p e i k x lt small f = (
+  none_recalled : (at j : ℕ) (p : List ℕ) → p ≡ splatted n 255 → Recalls admits at n at text j p
+  none_recalled at j p e i k x lt small f = (
     (λ _ le. absurd (omega arith)),
     (λ _. subst (λ q. IsSet (lane q i) k) (sym e) (rw (lane_row n (λ _. 255) i lt) (bit_at_ones 8 k small))),
   )
+
+  pub blank : (c at : ℕ) (p q r : List ℕ) → p ≡ splatted n 255 → q ≡ splatted n 255 → r ≡ splatted n 255 → RecallsAll admits c at n at text p q r
+  blank c at p q r ep eq er = ((λ _. none_recalled at 0 p ep), (λ _. none_recalled at 1 q eq), (λ _. none_recalled at 2 r er))

@@ -23,15 +23,13 @@ use Rattle.teddy.proofs.slim.Slim.windows.Goals.{After-window-found, After-bucke
 pub search-init : goal.search-init
 search-init g c =
     let t = c.args.self.now.teddy.tables in
-    let n = g.V.Vector.count in
-    let from = c.args.from + (c.masks-masks.result.count - 1) in
-    let all = blank (Admits (book_in t) (ids_in t) (key_in t)) n c.args.text.now from in
-    let seen = c.blank-seen.ensures in (
-      omega arith,
-      omega (arith, c.requires, c.lane_count-lanes.ensures, c.masks-masks.ensures.masks.some),
-      (λ x lo hi. absurd (omega arith)),
-      (from, omega arith, ((λ _. all 0 _ seen.first), (λ _. all 1 _ seen.second), (λ _. all 2 _ seen.third))),
-    )
+    let seen = c.blank-seen.ensures in
+    record {
+      low = omega arith;
+      high = omega (arith, c.requires, c.lane_count-lanes.ensures, c.masks-masks.ensures.masks.some);
+      clean = λ x lo hi. absurd (omega arith);
+      seen = (c.args.from + (c.masks-masks.result.count - 1), omega arith, blank (Admits (book_in t) (ids_in t) (key_in t)) g.V.Vector.count c.args.text.now c.masks-masks.result.count _ _ _ _ seen.first seen.second seen.third);
+    }
 
 -- the ids of the bucket that is read
 long : (g : given.Over) (c : After-bucket-id-items g) → length (in_bucket (key_in c.args.self.now.teddy.tables) (ids_in c.args.self.now.teddy.tables) (c.in-Some.digit % 8)) ≡ length c.bucket-id-items.result.now
@@ -80,12 +78,12 @@ loop-k-preserved g c y lt set =
 -- what a window shows, and what it leaves to the next
 windowed : (g : given.Over) (c : After-window-found g) →
     let t = c.args.self.now.teddy.tables in
-    Shows (Admits (book_in t) (ids_in t) (key_in t)) c.masks-masks.result.count c.search.invariant.3.0 g.V.Vector.count c.search.at c.args.text.now (g.V.Vector.lanes c.window-found.result)
-    × RecallsAll (Admits (book_in t) (ids_in t) (key_in t)) c.masks-masks.result.count c.search.invariant.3.0 g.V.Vector.count (c.search.at + g.V.Vector.count) c.args.text.now
+    Shows (Admits (book_in t) (ids_in t) (key_in t)) c.masks-masks.result.count c.search.invariant.seen.0 g.V.Vector.count c.search.at c.args.text.now (g.V.Vector.lanes c.window-found.result)
+    × RecallsAll (Admits (book_in t) (ids_in t) (key_in t)) c.masks-masks.result.count c.search.invariant.seen.0 g.V.Vector.count (c.search.at + g.V.Vector.count) c.args.text.now
     (g.V.Vector.lanes c.window-found.new.seen.first) (g.V.Vector.lanes c.window-found.new.seen.second) (g.V.Vector.lanes c.window-found.new.seen.third)
 windowed g c =
     let t = c.args.self.now.teddy.tables in
-    let old = c.search.invariant.3 in
+    let old = c.search.invariant.seen in
     c.window-found.ensures (book_in t) (ids_in t) (key_in t) old.0 c.masks-masks.ensures.masks old.1 old.2
 
 -- where a window's digits below d were tried in vain, nothing sought stands below d
@@ -99,12 +97,12 @@ window_below g c d le below x lo hi =
     let admits = Admits (book_in t) (ids_in t) (key_in t) in
     let m = c.masks-masks.result.count in
     let text = c.args.text.now in
-    let low = inv.3.0 in
+    let low = inv.seen.0 in
     ⊎_elim
-    (λ (l : x < 8 * (c.search.at - (m - 1))). inv.2 x lo l)
+    (λ (l : x < 8 * (c.search.at - (m - 1))). inv.clean x lo l)
     (λ (r : 8 * (c.search.at - (m - 1)) ≤ x).
     clean_below admits g.V.Vector.count m low c.search.at text (g.V.Vector.lanes c.window-found.result) (Sits (book_in t) text (key_in t))
-    (omega (arith, inv.0)) (windowed g c).0
+    (omega (arith, inv.low)) (windowed g c).0
     (λ y good. subst (λ b. Candidate admits m low text (y / 8) b) good.2 (candidate_of (shared t.rabinkarp) text m low good.0 (y / 8) (omega (arith, h.few, c.masks-masks.ensures.count)) good.1))
     d le below x r hi)
     (cases_lt x (8 * (c.search.at - (m - 1))))
@@ -147,7 +145,7 @@ returns-in-Some-verify g c =
     (c.loop-digit.invariant (y - 64 * k) (set_64 _ k y bytes r l set)))
     (cases_lt y (64 * k)))
     x lo (omega arith) in
-    let hits = hit_answers (shared t.rabinkarp) text (bit % 8) start c.args.from c.loop-id.id-index (omega (arith, c.search.invariant.0)) (omega (arith, long g a, c.loop-id-test.true))
+    let hits = hit_answers (shared t.rabinkarp) text (bit % 8) start c.args.from c.loop-id.id-index (omega (arith, c.search.invariant.low)) (omega (arith, long g a, c.loop-id-test.true))
     (subst (λ m. Stands (pattern (book_in t) m) text start) is got.0) c.loop-id.invariant before in
     ap Some (got.1 ∙ ap (λ m. hit (book_in t) m start) is) ∙ found_unique (book_in t) text c.args.from (Some (hit (book_in t) (get_or row c.loop-id.id-index 0) start)) hits
 
@@ -167,22 +165,22 @@ returns-then-at-end g c =
 pub search-preserved-then-end-at : goal.search-preserved-then-end-at
 search-preserved-then-end-at g c =
     let all-tried = window_below g (goal.at.search-preserved-then-end-at g c).After-window-found (8 * g.V.Vector.count) (omega arith) (clean g (goal.at.search-preserved-then-end-at g c).Joined-not-is_zero) in
-    let w = windowed g (goal.at.search-preserved-then-end-at g c).After-window-found in (
-      omega arith,
-      omega arith,
-      (λ x lo hi. all-tried x lo (omega (arith, c.lane_count-lanes.ensures))),
-      (c.search.invariant.3.0, omega (arith, c.search.invariant.3.1), rw c.lane_count-lanes.ensures w.1),
-    )
+    let w = windowed g (goal.at.search-preserved-then-end-at g c).After-window-found in
+    record {
+      low = omega arith;
+      high = omega arith;
+      clean = λ x lo hi. all-tried x lo (omega (arith, c.lane_count-lanes.ensures));
+      seen = (c.search.invariant.seen.0, omega (arith, c.search.invariant.seen.1), rw c.lane_count-lanes.ensures w.1);
+    }
 
 pub search-preserved : goal.search-preserved
 search-preserved g c =
     let all-tried = window_below g (goal.at.search-preserved g c).After-window-found (8 * g.V.Vector.count) (omega arith) (clean g (goal.at.search-preserved g c).Joined-not-is_zero) in
     let t = c.args.self.now.teddy.tables in
-    let end = length c.args.text.now - c.lane_count-lanes.result in
-    let all = blank (Admits (book_in t) (ids_in t) (key_in t)) g.V.Vector.count c.args.text.now end in
-    let seen = c.blank-seen-else-end-at.ensures in (
-      omega arith,
-      omega arith,
-      (λ x lo hi. all-tried x lo (omega (arith, c.lane_count-lanes.ensures))),
-      (end, omega arith, ((λ _. all 0 _ seen.first), (λ _. all 1 _ seen.second), (λ _. all 2 _ seen.third))),
-    )
+    let seen = c.blank-seen-else-end-at.ensures in
+    record {
+      low = omega arith;
+      high = omega arith;
+      clean = λ x lo hi. all-tried x lo (omega (arith, c.lane_count-lanes.ensures));
+      seen = (length c.args.text.now - c.lane_count-lanes.result, omega arith, blank (Admits (book_in t) (ids_in t) (key_in t)) g.V.Vector.count c.args.text.now c.masks-masks.result.count _ _ _ _ seen.first seen.second seen.third);
+    }

@@ -17,8 +17,12 @@ invariant-search g l =
     let means = g.V.Vector.lanes in
     let t = l.self.teddy.tables in
     let back = l.masks.count - 1 in
-    (l.from + back ≤ l.at) × (l.at ≤ l.end) × ((x : ℕ) → 8 * l.from ≤ x → x < 8 * (l.at - back) → Sits (book_in t) l.text (key_in t) x → ⊥)
-    × ((low : ℕ) × (low ≤ l.at) × RecallsAll (Admits (book_in t) (ids_in t) (key_in t)) l.masks.count low g.V.Vector.count l.at l.text (means l.seen.first) (means l.seen.second) (means l.seen.third))
+    record {
+      low : l.from + back ≤ l.at;
+      high : l.at ≤ l.end;
+      clean : (x : ℕ) → 8 * l.from ≤ x → x < 8 * (l.at - back) → Sits (book_in t) l.text (key_in t) x → ⊥;
+      seen : (low : ℕ) × (low ≤ l.at) × RecallsAll (Admits (book_in t) (ids_in t) (key_in t)) l.masks.count low g.V.Vector.count l.at l.text (means l.seen.first) (means l.seen.second) (means l.seen.third);
+    }
 
 abbrev pub decreases-search : goal.decreases-search
 decreases-search g l = l.end - l.at
