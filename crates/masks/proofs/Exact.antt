@@ -1,12 +1,12 @@
 -- The digits of a window's candidates are exactly the places that are candidates.
-use Rattle.std.proofs.Common.{◌≡◌, ℕ, zero, suc, ◌+◌, ◌-◌, ◌<◌, ◌≤◌, true, false, cond, eqb, ltb, ◌↔◌, List, sym, refl, ◌∙◌, subst, ⊎_elim, arith}
+use Rattle.std.proofs.Common.{◌≡◌, ℕ, zero, suc, ◌+◌, ◌-◌, ◌<◌, ◌≤◌, true, false, cond, eqb, ltb, ◌↔◌, List, sym, refl, ◌∙◌, subst, ⊎_elim, below_none, below_more, arith}
 use lib.Bits.{bit_and}
 use Rattle.std.proofs.lemmas.Bool.{cases_lt, cond-false, ne_eqb}
 use Rattle.std.proofs.lemmas.Bool.Decides.{nat_tests}
 use Rattle.bits.specs.Digits.{IsSet}
 use Rattle.vector.specs.Lanes.{lane, splatted, anded, shifted_in}
 use Rattle.vector.specs.Rows.{lane_row}
-use Rattle.vector.proofs.Words.{by_eight}
+use Rattle.std.proofs.lemmas.Nat.Bits.{bit_at_ones}
 use Rattle.tables.proofs.Standing.{and_set}
 use Rattle.masks.specs.Candidates.{met, kept}
 use Rattle.masks.specs.Places.{Shows, Recalls, RecallsAll}
@@ -17,33 +17,16 @@ newer count zero z old new lt e = e
 newer count (suc k) z old new lt e =
     newer count k z old new (omega arith) (e ∙ cond-false (eqb count (suc k)) old (kept count k old new) (ne_eqb count (suc k) (λ q. omega arith)))
 
-anded_set : (n : ℕ) (xs ys : List ℕ) (i k : ℕ) → i < n → (IsSet (lane (anded n xs ys) i) k ↔ (IsSet (lane xs i) k × IsSet (lane ys i) k))
-anded_set n xs ys i k lt = rw (lane_row n (λ j. bit_and (lane xs j) (lane ys j)) i lt) (and_set (lane xs i) (lane ys i) k)
+-- the lanes of one more mask, for what holds of each mask below c
+module _ (n i k : ℕ) (P : ℕ → Type 0) where
+  below_one : (xs : List ℕ) → (IsSet (lane xs i) k ↔ P 0) → (IsSet (lane xs i) k ↔ ((j : ℕ) → j < 1 → P j))
+  below_one xs a = ((λ s. below_more P 0 (below_none P) (a.0 s)), (λ all. a.1 (all 0 (omega arith))))
 
-both : (n : ℕ) (xs ys : List ℕ) (i k : ℕ) (P Q : Type 0) → i < n → (IsSet (lane xs i) k ↔ P) → (IsSet (lane ys i) k ↔ Q) → (IsSet (lane (anded n xs ys) i) k ↔ (P × Q))
-both n xs ys i k P Q lt p q =
-    let a = anded_set n xs ys i k lt in
-    ((λ s. (p.0 (a.0 s).0, q.0 (a.0 s).1)), (λ s. a.1 (p.1 s.0, q.1 s.1)))
-
-ones_set : (k : ℕ) → k < 8 → IsSet 255 k
-ones_set k h = by_eight (λ c. IsSet 255 c) refl refl refl refl refl refl refl refl k h
-
--- one, two, three, four are below that number
-one_of : (P : ℕ → Type 0) → P 0 → (j : ℕ) → j < 1 → P j
-one_of P a zero h = a
-one_of P a (suc j) h = absurd (omega arith)
-
-two_of : (P : ℕ → Type 0) → P 0 → P 1 → (j : ℕ) → j < 2 → P j
-two_of P a b zero h = a
-two_of P a b (suc j) h = one_of (λ i. P (suc i)) b j (omega arith)
-
-three_of : (P : ℕ → Type 0) → P 0 → P 1 → P 2 → (j : ℕ) → j < 3 → P j
-three_of P a b c zero h = a
-three_of P a b c (suc j) h = two_of (λ i. P (suc i)) b c j (omega arith)
-
-four_of : (P : ℕ → Type 0) → P 0 → P 1 → P 2 → P 3 → (j : ℕ) → j < 4 → P j
-four_of P a b c d zero h = a
-four_of P a b c d (suc j) h = three_of (λ i. P (suc i)) b c d j (omega arith)
+  anded_below : (c : ℕ) (xs ys : List ℕ) → i < n → (IsSet (lane xs i) k ↔ ((j : ℕ) → j < c → P j)) → (IsSet (lane ys i) k ↔ P c) → (IsSet (lane (anded n xs ys) i) k ↔ ((j : ℕ) → j < c + 1 → P j))
+  anded_below c xs ys lt p q =
+      let a = and_set (lane xs i) (lane ys i) k in
+      rw (lane_row n (λ j. bit_and (lane xs j) (lane ys j)) i lt)
+      ((λ s. below_more P c (p.0 (a.0 s).0) (q.0 (a.0 s).1)), (λ all. a.1 (p.1 (λ j l. all j (omega arith)), q.1 (all c (omega arith)))))
 
 module _ (admits : ℕ → ℕ → ℕ → Type 0) (n : ℕ) (text : List ℕ) where
   -- the lanes xs have what mask j admits for each byte of the window
@@ -77,35 +60,28 @@ module _ (admits : ℕ → ℕ → ℕ → Type 0) (n : ℕ) (text : List ℕ) w
     unfolding Tested
     shows zero a b f d p q r pos few wide sa sb sf sd keeps i k s lt small e = absurd (omega arith)
     shows (suc zero) a b f d p q r pos few wide sa sb sf sd keeps i k s lt small e =
-        let one = seen_set 0 a sa i k (s + 0) lt small (omega arith) in
-        ((λ set. one_of (λ j. Tested low j k (s + j)) (one.0 set)), (λ all. one.1 (all 0 (omega arith))))
+        below_one n i k (λ j. Tested low j k (s + j)) a (seen_set 0 a sa i k (s + 0) lt small (omega arith))
     shows (suc (suc zero)) a b f d p q r pos few wide sa sb sf sd keeps i k s lt small e =
-        let m = both n _ _ i k (Tested low 0 k (s + 0)) (Tested low 1 k (s + 1)) lt
-        (shifted_set 1 0 a p (omega arith) sa (keeps.0 (omega arith)) i k (s + 0) lt small (omega arith))
-        (seen_set 1 b (sb (omega arith)) i k (s + 1) lt small (omega arith)) in (
-          (λ set. let x = m.0 set in two_of (λ j. Tested low j k (s + j)) x.0 x.1),
-          (λ all. m.1 (all 0 (omega arith), all 1 (omega arith))),
-        )
+        let P : ℕ → Type 0 = λ j. Tested low j k (s + j) in
+        anded_below n i k P 1 _ _ lt
+        (below_one n i k P _ (shifted_set 1 0 a p (omega arith) sa (keeps.0 (omega arith)) i k (s + 0) lt small (omega arith)))
+        (seen_set 1 b (sb (omega arith)) i k (s + 1) lt small (omega arith))
     shows (suc (suc (suc zero))) a b f d p q r pos few wide sa sb sf sd keeps i k s lt small e =
-        let m = both n _ _ i k (Tested low 0 k (s + 0) × Tested low 1 k (s + 1)) (Tested low 2 k (s + 2)) lt
-        (both n _ _ i k (Tested low 0 k (s + 0)) (Tested low 1 k (s + 1)) lt
-        (shifted_set 2 0 a p (omega arith) sa (keeps.0 (omega arith)) i k (s + 0) lt small (omega arith))
+        let P : ℕ → Type 0 = λ j. Tested low j k (s + j) in
+        anded_below n i k P 2 _ _ lt
+        (anded_below n i k P 1 _ _ lt
+        (below_one n i k P _ (shifted_set 2 0 a p (omega arith) sa (keeps.0 (omega arith)) i k (s + 0) lt small (omega arith)))
         (shifted_set 1 1 b q (omega arith) (sb (omega arith)) (keeps.1 (omega arith)) i k (s + 1) lt small (omega arith)))
-        (seen_set 2 f (sf (omega arith)) i k (s + 2) lt small (omega arith)) in (
-          (λ set. let x = m.0 set in three_of (λ j. Tested low j k (s + j)) x.0.0 x.0.1 x.1),
-          (λ all. m.1 ((all 0 (omega arith), all 1 (omega arith)), all 2 (omega arith))),
-        )
+        (seen_set 2 f (sf (omega arith)) i k (s + 2) lt small (omega arith))
     shows (suc (suc (suc (suc zero)))) a b f d p q r pos few wide sa sb sf sd keeps i k s lt small e =
-        let m = both n _ _ i k ((Tested low 0 k (s + 0) × Tested low 1 k (s + 1)) × Tested low 2 k (s + 2)) (Tested low 3 k (s + 3)) lt
-        (both n _ _ i k (Tested low 0 k (s + 0) × Tested low 1 k (s + 1)) (Tested low 2 k (s + 2)) lt
-        (both n _ _ i k (Tested low 0 k (s + 0)) (Tested low 1 k (s + 1)) lt
-        (shifted_set 3 0 a p (omega arith) sa (keeps.0 (omega arith)) i k (s + 0) lt small (omega arith))
+        let P : ℕ → Type 0 = λ j. Tested low j k (s + j) in
+        anded_below n i k P 3 _ _ lt
+        (anded_below n i k P 2 _ _ lt
+        (anded_below n i k P 1 _ _ lt
+        (below_one n i k P _ (shifted_set 3 0 a p (omega arith) sa (keeps.0 (omega arith)) i k (s + 0) lt small (omega arith)))
         (shifted_set 2 1 b q (omega arith) (sb (omega arith)) (keeps.1 (omega arith)) i k (s + 1) lt small (omega arith)))
         (shifted_set 1 2 f r (omega arith) (sf (omega arith)) (keeps.2 (omega arith)) i k (s + 2) lt small (omega arith)))
-        (seen_set 3 d (sd (omega arith)) i k (s + 3) lt small (omega arith)) in (
-          (λ set. let x = m.0 set in four_of (λ j. Tested low j k (s + j)) x.0.0.0 x.0.0.1 x.0.1 x.1),
-          (λ all. m.1 (((all 0 (omega arith), all 1 (omega arith)), all 2 (omega arith)), all 3 (omega arith))),
-        )
+        (seen_set 3 d (sd (omega arith)) i k (s + 3) lt small (omega arith))
     shows (suc (suc (suc (suc (suc c))))) a b f d p q r pos few wide sa sb sf sd keeps i k s lt small e = absurd (omega arith)
 
     -- what a window sees is what the next one recalls
@@ -116,8 +92,11 @@ module _ (admits : ℕ → ℕ → ℕ → Type 0) (n : ℕ) (text : List ℕ) w
         ((λ s _. a.0 s), (λ t. a.1 (t (omega arith))))
 
   -- before the first window nothing was loaded
-  pub blank : (at j : ℕ) (p : List ℕ) → p ≡ splatted n 255 → Recalls admits at n at text j p
-  blank at j p e i k x lt small f = (
+  none_recalled : (at j : ℕ) (p : List ℕ) → p ≡ splatted n 255 → Recalls admits at n at text j p
+  none_recalled at j p e i k x lt small f = (
     (λ _ le. absurd (omega arith)),
-    (λ _. subst (λ q. IsSet (lane q i) k) (sym e) (rw (lane_row n (λ _. 255) i lt) (ones_set k small))),
+    (λ _. subst (λ q. IsSet (lane q i) k) (sym e) (rw (lane_row n (λ _. 255) i lt) (bit_at_ones 8 k small))),
   )
+
+  pub blank : (c at : ℕ) (p q r : List ℕ) → p ≡ splatted n 255 → q ≡ splatted n 255 → r ≡ splatted n 255 → RecallsAll admits c at n at text p q r
+  blank c at p q r ep eq er = ((λ _. none_recalled at 0 p ep), (λ _. none_recalled at 1 q eq), (λ _. none_recalled at 2 r er))

@@ -1,5 +1,5 @@
 -- What the vectors of a book's masks admit.
-use Rattle.std.proofs.Common.{◌≡◌, ℕ, ◌+◌, ◌*◌, ◌/◌, ◌%◌, ◌<◌, ◌⊎◌, ◌↔◌, List, sym, ap, ◌∙◌, subst, ⊎_elim, arith}
+use Rattle.std.proofs.Common.{◌≡◌, ℕ, ◌+◌, ◌*◌, ◌/◌, ◌%◌, ◌<◌, ◌⊎◌, ◌↔◌, List, ap, ◌∙◌, ⊎_elim, arith}
 use lib.Bits.{bit_and}
 use Rattle.bits.specs.Digits.{IsSet}
 use Rattle.rules.specs.Book.{Book}
@@ -22,9 +22,10 @@ pub sees : (n : ℕ) → (n ≡ 16) ⊎ (n ≡ 32) → (b : Book) (ids : List �
 sees n wide b ids key text fit at j lo hi el eh i k lt small =
     let x = lane text (at + i) in
     let xs = loaded n text at in
-    let is : lane (members n lo hi xs) i ≡ bit_and (lane (low_mask b ids key j) (x % 16)) (lane (high_mask b ids key j) (x / 16)) =
-    lane_row n (λ m. bit_and (lane lo (m / 16 * 16 + lane xs m % 16)) (lane hi (m / 16 * 16 + lane xs m / 16))) i lt
-    ∙ (ap (λ y. bit_and (lane lo (i / 16 * 16 + y % 16)) (lane hi (i / 16 * 16 + y / 16))) (lane_row n (λ m. lane text (at + m)) i lt)
-    ∙ (ap (λ z. bit_and z (lane hi (i / 16 * 16 + x / 16))) (repeated_at n (low_mask b ids key j) lo i (x % 16) wide lt (omega arith) el)
-    ∙ ap (bit_and (lane (low_mask b ids key j) (x % 16))) (repeated_at n (high_mask b ids key j) hi i (x / 16) wide lt (omega (arith, fit (at + i))) eh))) in
-    subst (λ z. IsSet z k ↔ Admits b ids key j k x) (sym is) (masks_stand b ids key j k x (fit (at + i)))
+    rw (
+      lane_row n (λ m. bit_and (lane lo (m / 16 * 16 + lane xs m % 16)) (lane hi (m / 16 * 16 + lane xs m / 16))) i lt,
+      lane_row n (λ m. lane text (at + m)) i lt,
+      repeated_at n (low_mask b ids key j) lo i (x % 16) wide lt (omega arith) el,
+      repeated_at n (high_mask b ids key j) hi i (x / 16) wide lt (omega (arith, fit (at + i))) eh,
+    )
+    (masks_stand b ids key j k x (fit (at + i)))

@@ -3,6 +3,7 @@ ghost use Rattle.std.specs.Prelude.{◌≡◌, ◌/◌, ◌%◌};
 ghost use Rattle.vector.specs.Lanes.{lane, row};
 ghost use Rattle.masks.specs.Members.{repeated, admitted};
 
+use std::array;
 use tables::mask::MaskTable;
 use vector::vector::Vector;
 
@@ -14,6 +15,7 @@ pub struct Mask<V> {
 }
 
 /// The low and the high nybble of each lane.
+#[tactic(auto, using(crate::proofs::LookUps::low_nybbles, crate::proofs::LookUps::high_nybbles))]
 fn nybbles<V: Vector>(chunk: V) -> (V, V)
     ensures low { V.lanes result.0 ≡ row V.count (λ i. lane (V.lanes chunk) i % 16) }
     ensures high { V.lanes result.1 ≡ row V.count (λ i. lane (V.lanes chunk) i / 16) }
@@ -28,10 +30,7 @@ fn nybbles<V: Vector>(chunk: V) -> (V, V)
 fn load_table<V: Vector>(table: &[u8; 16]) -> V
     ensures { V.lanes result ≡ repeated V.count table.now }
 {
-    let mut twice = [0; 32];
-    for i in 0..32 {
-        twice[i] = table[i % 16];
-    }
+    let twice: [u8; 32] = array::from_fn(|i| table[i % 16]);
     V::load(&twice, 0)
 }
 
@@ -47,23 +46,17 @@ impl<V: Vector> Mask<V> {
         }
     }
 
-    /// The buckets that a mask admits for each byte of a chunk.
+    /// The buckets that a mask admits for each byte of a chunk: looks both its nybbles up, and takes the buckets that both have.
     pub fn members1(chunk: V, mask: Mask<V>) -> V
         ensures { V.lanes result ≡ admitted V.count V.lanes mask (V.lanes chunk) }
     {
-        mask.look_up(chunk)
-    }
-
-    /// Looks both nybbles of each byte up, and takes the buckets that both have.
-    fn look_up(self, chunk: V) -> V
-        ensures { V.lanes result ≡ admitted V.count V.lanes self (V.lanes chunk) }
-    {
         let (hlo, hhi) = nybbles(chunk);
-        let locand = self.lo.shuffle_bytes(hlo);
-        let hicand = self.hi.shuffle_bytes(hhi);
+        let locand = mask.lo.shuffle_bytes(hlo);
+        let hicand = mask.hi.shuffle_bytes(hhi);
         locand.and(hicand)
     }
 
+    // A function for each number of masks, which answers a tuple: a rule of the project.
     /// The same for two masks.
     pub fn members2(chunk: V, first: Mask<V>, second: Mask<V>) -> (V, V)
         ensures one { V.lanes result.0 ≡ admitted V.count V.lanes first (V.lanes chunk) }

@@ -1,21 +1,16 @@
 //! The candidates of a text's windows, place by place.
 ghost use Rattle.masks.specs.Places.{Exact};
 
-use crate::candidate::{Masks, Seen, candidate};
+use crate::candidate::{Masks, Seen};
 use vector::vector::Vector;
 
-/// The candidates of the window of a text at a place, for the masks of a book: digit k of lane i is set exactly if mask j
-/// admits the bucket k for the byte j behind the lane's place, for all j below the mask count. Of these bytes only those are
-/// tested that were loaded since `seen` was blank; `seen` then holds what the masks admitted here.
-pub fn window<V: Vector>(text: &[u8], at: usize, masks: &Masks<V>, seen: &mut Seen<V>) -> V
-    ensures { Exact V.count V.lanes masks.now at text.now seen.old result seen.new }
-{
-    loaded_window(text, at, masks, seen)
-}
-
-/// Loads the window, and asks for its candidates.
-fn loaded_window<V: Vector>(text: &[u8], at: usize, masks: &Masks<V>, seen: &mut Seen<V>) -> V
-    ensures { Exact V.count V.lanes masks.now at text.now seen.old result seen.new }
-{
-    candidate(V::load(text, at), masks, seen)
+impl<V: Vector> Masks<V> {
+    /// The candidates of the window of a text at a place, for the masks of a book: digit k of lane i is set exactly if mask j
+    /// admits the bucket k for the byte j behind the lane's place, for all j below the mask count. Of these bytes only those are
+    /// tested that were loaded since `seen` was blank; `seen` then holds what the masks admitted here.
+    pub fn window(&self, text: &[u8], at: usize, seen: &mut Seen<V>) -> V
+        ensures { Exact V.count V.lanes self.now at text.now seen.old result seen.new }
+    {
+        self.candidate(V::load(text, at), seen)
+    }
 }

@@ -1,44 +1,53 @@
 -- The digits of a mask.
-use Rattle.std.proofs.Common.{◌≡◌, ℕ, zero, suc, ◌+◌, ◌*◌, ◌/◌, ◌%◌, ◌^◌, ◌<◌, cond, eqb, List, [], ◌∷◌, length, get_or, take, set, fold, sym, refl, ap, ◌∙◌, subst, inl, inr, arith}
-use lib.Bits.{bit_or, or_shr, or_mod, or_zero_r}
-use Rattle.std.proofs.lemmas.Nat.{shl-shr}
+use Rattle.std.proofs.Common.{◌≡◌, ℕ, zero, suc, ◌+◌, ◌/◌, ◌%◌, ◌^◌, ◌<◌, ◌≤◌, cond, eqb, ◌⊎◌, ◌↔◌, List, [], ◌∷◌, length, get_or, take, set, fold, sym, refl, ◌∙◌, inl, inr, ⊎_elim, arith}
+use lib.Bits.{bit_or, or_zero_r}
+use Rattle.std.proofs.lemmas.Nat.Bits.{bit_at_or, bit_at-zero, bit_at-pow_same, bit_at-pow_other}
 use Rattle.std.proofs.lemmas.List.{length-set, get_or-set_same, get_or-set_other}
 use Rattle.std.proofs.lemmas.List.Sums.{fold_more}
-use Rattle.std.proofs.lemmas.Bool.{cases_eq, eq-eqb, ne_eqb, cond-true, cond-false}
+use Rattle.std.proofs.lemmas.Bool.{cases_eq, cases_lt, eq-eqb, ne_eqb}
 use Rattle.bits.specs.Digits.{IsSet}
 use Rattle.vector.specs.Lanes.{lane}
 use Rattle.tables.specs.Masks.{marks}
 
-one_or : (z : ℕ) → z < 2 → bit_or 1 z ≡ 1
-one_or zero h = refl
-one_or (suc zero) h = refl
-one_or (suc (suc z)) h = absurd (omega arith)
+-- a digit of x | y is one of either
+or_set : (x y b : ℕ) → (IsSet (bit_or x y) b ↔ (IsSet x b ⊎ IsSet y b))
+or_set x y b = (
+  (λ s. ⊎_elim (λ (l : x / 2 ^ b % 2 < 1). inr (omega (arith, s, bit_at_or x y b))) (λ (g : 1 ≤ x / 2 ^ b % 2). inl (omega arith)) (cases_lt (x / 2 ^ b % 2) 1)),
+  (λ s. ⊎_elim (λ p. omega (arith, p, bit_at_or x y b)) (λ p. omega (arith, p, bit_at_or x y b)) s),
+)
 
-or_one : (z : ℕ) → z < 2 → bit_or z 1 ≡ 1
-or_one zero h = refl
-or_one (suc zero) h = refl
-or_one (suc (suc z)) h = absurd (omega arith)
-
-or_set_l : (x y b : ℕ) → IsSet x b → IsSet (bit_or x y) b
-or_set_l x y b p = ap (λ z. z % 2) (or_shr x y b) ∙ (or_mod (x / 2 ^ b) (y / 2 ^ b) 1 ∙ (ap (λ z. bit_or z (y / 2 ^ b % 2)) p ∙ one_or (y / 2 ^ b % 2) (omega arith)))
-
-or_set_r : (x y b : ℕ) → IsSet y b → IsSet (bit_or x y) b
-or_set_r x y b p = ap (λ z. z % 2) (or_shr x y b) ∙ (or_mod (x / 2 ^ b) (y / 2 ^ b) 1 ∙ (ap (λ z. bit_or (x / 2 ^ b % 2) z) p ∙ or_one (x / 2 ^ b % 2) (omega arith)))
-
-pow_set : (b : ℕ) → IsSet (2 ^ b) b
-pow_set b = let one : 2 ^ b ≡ 1 * 2 ^ b = omega arith in ap (λ x. x / 2 ^ b % 2) one ∙ ap (λ x. x % 2) (shl-shr 1 b)
+-- the digit k, where a is n
+digit_set : (a n k b : ℕ) → (IsSet (cond (eqb a n) (2 ^ k) 0) b ↔ ((k ≡ b) × (a ≡ n)))
+digit_set a n k b =
+    elim (cases_eq a n) [
+      | inl e ↦ rw (eq-eqb a n e) ((λ s. elim (cases_eq b k) [ inl q ↦ (sym q, e) | inr ne ↦ absurd (omega (arith, s, bit_at-pow_other k b ne)) ]), (λ p. rw (← p.0) (bit_at-pow_same k)))
+      | inr ne ↦ rw (ne_eqb a n ne) ((λ s. absurd (omega (arith, s, bit_at-zero b))), (λ p. absurd (ne p.1)))
+    ]
 
 module _ (key nybble : ℕ → ℕ) where
-  keeps : (n : ℕ) (xs : List ℕ) (m b : ℕ) → IsSet m b → IsSet (fold (λ a i. bit_or a (cond (eqb (nybble i) n) (2 ^ key i) 0)) m xs) b
-  keeps n [] m b p = p
-  keeps n (x ∷ xs) m b p = keeps n xs (bit_or m (cond (eqb (nybble x) n) (2 ^ key x) 0)) b (or_set_l m (cond (eqb (nybble x) n) (2 ^ key x) 0) b p)
+  -- some id has the nybble n and the key b
+  abbrev SomeWith : ℕ → ℕ → List ℕ → Type 0
+  SomeWith n b xs = (i : ℕ) × (i < length xs) × (key (get_or xs i 0) ≡ b) × (nybble (get_or xs i 0) ≡ n)
 
-  pub sets : (xs : List ℕ) (m j : ℕ) → j < length xs → IsSet (fold (λ a i. bit_or a (cond (eqb (nybble i) (nybble (get_or xs j 0))) (2 ^ key i) 0)) m xs) (key (get_or xs j 0))
-  sets [] m j h = absurd (omega arith)
-  sets (x ∷ xs) m zero h =
-      let v = cond (eqb (nybble x) (nybble x)) (2 ^ key x) 0 in
-      keeps (nybble x) xs (bit_or m v) (key x) (or_set_r m v (key x) (subst (λ z. IsSet z (key x)) (sym (cond-true (eqb (nybble x) (nybble x)) (2 ^ key x) 0 (eq-eqb (nybble x) (nybble x) refl))) (pow_set (key x))))
-  sets (x ∷ xs) m (suc j) h = sets xs (bit_or m (cond (eqb (nybble x) (nybble (get_or xs j 0))) (2 ^ key x) 0)) j (omega arith)
+  front_or_later : (n b x : ℕ) (xs : List ℕ) (i : ℕ) → i < length (x ∷ xs) → (key (get_or (x ∷ xs) i 0) ≡ b) × (nybble (get_or (x ∷ xs) i 0) ≡ n)
+      → ((key x ≡ b) × (nybble x ≡ n)) ⊎ SomeWith n b xs
+  front_or_later n b x xs zero h p = inl p
+  front_or_later n b x xs (suc i) h p = inr (i, omega arith, p.0, p.1)
+
+  -- the digits of a mark are the keys of the ids with the nybble
+  pub digits : (n : ℕ) (xs : List ℕ) (m b : ℕ) → (IsSet (fold (λ a i. bit_or a (cond (eqb (nybble i) n) (2 ^ key i) 0)) m xs) b ↔ (IsSet m b ⊎ SomeWith n b xs))
+  digits n [] m b = ((λ s. inl s), (λ s. ⊎_elim (λ p. p) (λ i. absurd (omega (arith, i.1))) s))
+  digits n (x ∷ xs) m b =
+      let v = cond (eqb (nybble x) n) (2 ^ key x) 0 in
+      let more = digits n xs (bit_or m v) b in
+      let either = or_set m v b in
+      let one = digit_set (nybble x) n (key x) b in (
+        (λ s. ⊎_elim (λ r. ⊎_elim (λ p. inl p) (λ q. let k = one.0 q in inr (0, omega arith, k.0, k.1)) (either.0 r)) (λ i. inr (suc i.0, omega (arith, i.1), i.2, i.3)) (more.0 s)),
+        (λ s. ⊎_elim
+            (λ p. more.1 (inl (either.1 (inl p))))
+            (λ i. ⊎_elim (λ k. more.1 (inl (either.1 (inr (one.1 k))))) (λ l. more.1 (inr l)) (front_or_later n b x xs i.0 i.1 (i.2, i.3)))
+            s),
+      )
 
   -- a table whose entries are the marks of an order
   abbrev pub Marked : List ℕ → List ℕ → Type 0
@@ -46,28 +55,21 @@ module _ (key nybble : ℕ → ℕ) where
 
   pub marked_more : (ids xs : List ℕ) (i k v : ℕ) → i < length ids → Marked (take i ids) xs → k ≡ nybble (get_or ids i 0) → k < 16 → v ≡ bit_or (lane xs k) (2 ^ key (get_or ids i 0))
       → Marked (take (i + 1) ids) (set xs k v)
-  marked_more ids xs i k v il inv e small is =
-      let x = get_or ids i 0 in
-      let more : (n : ℕ) → marks key nybble n (take (i + 1) ids) ≡ bit_or (marks key nybble n (take i ids)) (cond (eqb (nybble x) n) (2 ^ key x) 0) =
-      λ n. fold_more (λ a y. bit_or a (cond (eqb (nybble y) n) (2 ^ key y) 0)) 0 ids i 0 il in (
-        length-set xs k v ∙ inv.0,
-        λ n lt. elim (cases_eq n k) [
-          | inl q ↦
-              let got = more n ∙ ap (bit_or (marks key nybble n (take i ids))) (cond-true (eqb (nybble x) n) (2 ^ key x) 0 (eq-eqb (nybble x) n (sym e ∙ sym q))) in
-              ap (lane (set xs k v)) q ∙ (get_or-set_same xs k v 0 (omega (arith, inv.0)) ∙ (is ∙ (ap (λ z. bit_or z (2 ^ key x)) (ap (lane xs) (sym q) ∙ inv.1 n lt) ∙ sym got)))
-          | inr ne ↦
-              let got = more n ∙ (ap (bit_or (marks key nybble n (take i ids))) (cond-false (eqb (nybble x) n) (2 ^ key x) 0 (ne_eqb (nybble x) n (λ q. ne (sym q ∙ sym e)))) ∙ or_zero_r (marks key nybble n (take i ids))) in
-              get_or-set_other xs k n v 0 ne ∙ (inv.1 n lt ∙ sym got)
+  marked_more ids xs i k v il inv e small is = (
+    length-set xs k v ∙ inv.0,
+    λ n lt.
+        let more = fold_more (λ a y. bit_or a (cond (eqb (nybble y) n) (2 ^ key y) 0)) 0 ids i 0 il in
+        elim (cases_eq n k) [
+          | inl q ↦ rw (more, q, get_or-set_same xs k v 0 (omega (arith, inv.0)), is, inv.1 k small, eq-eqb (nybble (get_or ids i 0)) k (sym e)) refl
+          | inr ne ↦ rw (more, get_or-set_other xs k n v 0 ne, inv.1 n lt, ne_eqb (nybble (get_or ids i 0)) n (λ q. ne (sym q ∙ sym e)), or_zero_r (marks key nybble n (take i ids))) refl
         ],
-      )
+  )
 
 -- the marks depend on the keys of the ids alone
 folded_same : (key other nybble : ℕ → ℕ) (n : ℕ) (xs : List ℕ) (m : ℕ) → ((i : ℕ) → i < length xs → key (get_or xs i 0) ≡ other (get_or xs i 0))
     → fold (λ a i. bit_or a (cond (eqb (nybble i) n) (2 ^ key i) 0)) m xs ≡ fold (λ a i. bit_or a (cond (eqb (nybble i) n) (2 ^ other i) 0)) m xs
 folded_same key other nybble n [] m e = refl
-folded_same key other nybble n (x ∷ xs) m e =
-    folded_same key other nybble n xs (bit_or m (cond (eqb (nybble x) n) (2 ^ key x) 0)) (λ i l. e (suc i) (omega arith))
-    ∙ ap (λ z. fold (λ a i. bit_or a (cond (eqb (nybble i) n) (2 ^ other i) 0)) (bit_or m (cond (eqb (nybble x) n) (2 ^ z) 0)) xs) (e 0 (omega arith))
+folded_same key other nybble n (x ∷ xs) m e = rw (e 0 (omega arith)) (folded_same key other nybble n xs _ (λ i l. e (suc i) (omega arith)))
 
 pub marks_same : (key other nybble : ℕ → ℕ) (n : ℕ) (xs : List ℕ) → ((i : ℕ) → i < length xs → key (get_or xs i 0) ≡ other (get_or xs i 0)) → marks key nybble n xs ≡ marks other nybble n xs
 marks_same key other nybble n xs e = folded_same key other nybble n xs 0 e

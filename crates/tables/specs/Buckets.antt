@@ -4,7 +4,7 @@
 -- front b             how many low nybbles are compared: four, or the shortest length where that is less
 -- leader b ids p      the first of ids whose pattern has the low nybbles of p
 -- bucket_of b ids i   the bucket of the pattern i
-use Rattle.std.specs.Prelude.{◌≡◌, ℕ, zero, suc, ◌-◌, ◌%◌, ◌<◌, min, Bool, true, cond, ◌&&◌, List, [], ◌∷◌, ◌==◌, slice_index}
+use Rattle.std.specs.Prelude.{◌≡◌, ℕ, zero, suc, ◌-◌, ◌%◌, ◌<◌, min, Bool, true, ◌&&◌, List, ◌==◌, slice_index, find, unwrap_or}
 use Rattle.rules.specs.Book.{Book, pattern, shortest}
 
 abbrev pub Alike : List ℕ → List ℕ → ℕ → Type 0
@@ -17,9 +17,8 @@ alike p q (suc n) = slice_index p n % 16 == slice_index q n % 16 && alike p q n
 abbrev pub front : Book → ℕ
 front b = min 4 (shortest b)
 
-unfoldable pub leader : Book → List ℕ → List ℕ → ℕ
-leader b [] p = 0
-leader b (i ∷ ids) p = cond (alike (pattern b i) p (front b)) i (leader b ids p)
+abbrev pub leader : Book → List ℕ → List ℕ → ℕ
+leader b ids p = unwrap_or (find (λ i. alike (pattern b i) p (front b)) ids) 0
 
 abbrev pub bucket_of : Book → List ℕ → ℕ → ℕ
 bucket_of b ids i = 7 - leader b ids (pattern b i) % 8

@@ -5,24 +5,20 @@ ghost use Rattle.tables.specs.Buckets.{Alike, leader, bucket_of};
 
 use pattern::book::Book;
 use rules::primitives::{PatternID, SmallIndex};
+use std::array;
 
 /// A byte of a pattern, 0 past its end.
 pub(crate) fn byte_at(pattern: &[u8], j: usize) -> u8
     ensures { result ≡ slice_index pattern.now j }
 {
-    if j < pattern.len() { pattern[j] } else { 0 }
+    pattern.get(j).copied().unwrap_or(0)
 }
 
 /// Whether the first `n` low nybbles of two patterns are equal.
 fn same_front(a: &[u8], b: &[u8], n: usize) -> bool
     ensures { MatchBool result (Alike a.now b.now n) (Alike a.now b.now n → ⊥) }
 {
-    for k in 0..n {
-        if byte_at(a, k) % 16 != byte_at(b, k) % 16 {
-            return false;
-        }
-    }
-    true
+    (0..n).all(|k| byte_at(a, k) % 16 == byte_at(b, k) % 16)
 }
 
 /// The index of the first id in the kind's order whose pattern has the low nybbles of a pattern; 0 where there is none.
@@ -30,12 +26,10 @@ fn leader_of(book: &Book, pattern: &[u8]) -> usize
     ensures { result ≡ leader (book_of book.now) (order_in book.now) pattern.now }
 {
     let n = book.minimum_len().min(4);
-    for (i, other) in book.order().iter().enumerate() {
-        if same_front(book.get(*other), pattern, n) {
-            return other.as_usize();
-        }
-    }
-    0
+    book.order()
+        .iter()
+        .find(|id| same_front(book.get(**id), pattern, n))
+        .map_or(0, |id| id.as_usize())
 }
 
 /// The bucket of a pattern: that of the first one in the kind's order with its low nybbles. Patterns that can stand at one
@@ -50,9 +44,11 @@ fn bucket_of(book: &Book, id: PatternID) -> usize
 pub fn assign(book: &Book) -> [usize; 1024]
     ensures { (i : ℕ) → slice_index result i ≡ (if nat_lt i (count_of (book_of book.now)) then bucket_of (book_of book.now) (order_in book.now) i else 0) }
 {
-    let mut buckets = [0; 1024];
-    for i in 0..book.len() {
-        buckets[i] = bucket_of(book, PatternID(SmallIndex(i as u32)));
-    }
-    buckets
+    array::from_fn(|i| {
+        if i < book.len() {
+            bucket_of(book, PatternID(SmallIndex(i as u32)))
+        } else {
+            0
+        }
+    })
 }

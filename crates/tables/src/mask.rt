@@ -18,23 +18,14 @@ impl MaskTable {
         ensures lo { result.lo ≡ low_mask (book_of book.now) (order_in book.now) (λ i. slice_index buckets.now i % 8) j }
         ensures hi { result.hi ≡ high_mask (book_of book.now) (order_in book.now) (λ i. slice_index buckets.now i % 8) j }
     {
-        let (lo, hi) = Self::marked(book, buckets, j);
-        MaskTable { lo, hi }
-    }
-
-    /// The tables of the low and of the high nybbles.
-    fn marked(book: &Book, buckets: &[usize; 1024], j: usize) -> ([u8; 16], [u8; 16])
-        ensures lo { result.0 ≡ low_mask (book_of book.now) (order_in book.now) (λ i. slice_index buckets.now i % 8) j }
-        ensures hi { result.1 ≡ high_mask (book_of book.now) (order_in book.now) (λ i. slice_index buckets.now i % 8) j }
-    {
         let mut lo = [0; 16];
         let mut hi = [0; 16];
-        for (i, id) in book.order().iter().enumerate() {
+        for id in book.order() {
             let byte = byte_at(book.get(*id), j);
             let bit = 1 << (buckets[id.as_usize()] % 8);
             lo[(byte % 16) as usize] |= bit;
             hi[(byte / 16) as usize] |= bit;
         }
-        (lo, hi)
+        MaskTable { lo, hi }
     }
 }

@@ -7,12 +7,5 @@ pub fn tables_hold() -> bool
     ensures masks { MasksStand }
     ensures value { result ≡ true }
 {
-    hold();
     true
 }
-
-/// What `tables_hold` states.
-fn hold()
-    ensures buckets { BucketsStand }
-    ensures masks { MasksStand }
-{}

@@ -1,11 +1,11 @@
 -- A digit of a 64-bit lane is a digit of one of its bytes.
 use Rattle.std.proofs.Common.{◌≡◌, ℕ, ◌+◌, ◌-◌, ◌*◌, ◌/◌, ◌%◌, ◌^◌, ◌<◌, ◌≤◌, true, List, sym, ap, ◌∙◌, arith}
-use native.Mathlib.Nat.{zero-div}
 use Rattle.std.proofs.lemmas.Nat.{shr-shr}
+use Rattle.std.proofs.lemmas.Nat.Bits.{bit_at_cat_low, bit_at-zero}
 use Rattle.bits.specs.Digits.{IsSet}
 use Rattle.vector.specs.Lanes.{lane, lane64, all_zero}
 use Rattle.vector.proofs.Numbers.{zero_to}
-use Rattle.vector.proofs.Words.{by_eight, byte_of_number}
+use Rattle.vector.proofs.Words.{byte_of_number}
 
 -- digit y of a row of lanes: digit y % 8 of lane y / 8
 abbrev pub SetAt : List ℕ → ℕ → Type 0
@@ -13,7 +13,8 @@ SetAt xs y = IsSet (lane xs (y / 8)) (y % 8)
 
 low_digit : (x b : ℕ) → b < 8 → x % 256 / 2 ^ b % 2 ≡ x / 2 ^ b % 2
 low_digit x b h =
-    by_eight (λ c. x % 256 / 2 ^ c % 2 ≡ x / 2 ^ c % 2) (omega arith) (omega arith) (omega arith) (omega arith) (omega arith) (omega arith) (omega arith) (omega arith) b h
+    let e : x / 256 * 2 ^ 8 + x % 256 ≡ x = omega arith in
+    sym (bit_at_cat_low (x / 256) 8 (x % 256) b h) ∙ ap (λ z. z / 2 ^ b % 2) e
 
 digit_64 : (xs : List ℕ) (k j : ℕ) → ((i : ℕ) → lane xs i < 256) → j < 64 → lane64 xs k / 2 ^ j % 2 ≡ lane xs ((64 * k + j) / 8) / 2 ^ ((64 * k + j) % 8) % 2
 digit_64 xs k j bytes h =
@@ -33,7 +34,7 @@ set_64 xs k y bytes h l set =
 
 -- nothing is set in 0
 pub none_in_zero : (n j : ℕ) → n ≡ 0 → IsSet n j → ⊥
-none_in_zero n j e set = omega (arith, set, ap (λ x. x / 2 ^ j % 2) e, ap (λ x. x % 2) (zero-div (2 ^ j)))
+none_in_zero n j e set = omega (arith, set, ap (λ x. x / 2 ^ j % 2) e, bit_at-zero j)
 
 pub none_in_zeros : (xs : List ℕ) (y : ℕ) → all_zero xs ≡ true → SetAt xs y → ⊥
 none_in_zeros xs y e set = none_in_zero (lane xs (y / 8)) (y % 8) (zero_to xs e (y / 8)) set

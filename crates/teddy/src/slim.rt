@@ -1,4 +1,5 @@
 use crate::teddy::Teddy;
+use std::marker::PhantomData;
 
 pub mod find;
 
@@ -6,5 +7,5 @@ pub mod find;
 #[derive(Drop)]
 pub struct Slim<V> {
     teddy: Teddy,
-    kind: V,
+    kind: PhantomData<V>,
 }

@@ -4,6 +4,7 @@ use tables::mask::MaskTable;
 
 /// The buckets and the masks of a book, of which the first `count` are used, beside the rolling hash, which holds the book
 /// and searches what is too short for a window.
+// A plain struct, with the invariants in the one that holds it, and named masks beside their count: rules of the project.
 #[derive(Drop)]
 pub struct Tables {
     pub(crate) rabinkarp: RabinKarp,

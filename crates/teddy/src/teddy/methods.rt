@@ -10,7 +10,7 @@ ghost use Rattle.teddy.specs.Held.{book_in, ids_in, key_in, nearest};
 use crate::teddy::Teddy;
 use crate::teddy_tables::Tables;
 use buckets::buckets::Buckets;
-use finder::compare::stands;
+use finder::compare::verify;
 use masks::candidate::Masks;
 use masks::mask::Mask;
 use pattern::book::Book;
@@ -25,7 +25,7 @@ use vector::vector::Vector;
 fn clamped(book: &Book, masks: usize) -> usize
     ensures { result ≡ nearest masks (book_of book.now) }
 {
-    masks.max(1).min(4).min(book.minimum_len())
+    masks.clamp(1, 4).min(book.minimum_len())
 }
 
 impl Teddy {
@@ -82,14 +82,6 @@ impl Teddy {
     pub(crate) fn verify(&self, id: PatternID, text: &[u8], start: usize) -> Option<Match>
         ensures { MatchOption result (Stands (pattern (book_in self.now.tables) id.0.0) text.now start → ⊥) (λ m. Stands (pattern (book_in self.now.tables) id.0.0) text.now start × (m ≡ hit (book_in self.now.tables) id.0.0 start)) }
     {
-        let pattern = self.tables.rabinkarp.book().get(id);
-        if !stands(pattern, text, start) {
-            return None;
-        }
-        Some(Match {
-            pattern: id,
-            start,
-            end: start + pattern.len(),
-        })
+        verify(self.tables.rabinkarp.book(), id, text, start)
     }
 }

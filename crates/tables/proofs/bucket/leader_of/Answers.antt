@@ -1,49 +1,27 @@
-use Rattle.std.proofs.Common.{◌≡◌, ◌<◌, ◌≤◌, length, get_or, sym, ap, ◌∙◌, subst, arith}
-use Rattle.std.proofs.lemmas.List.{length-map, drop_all}
+use Rattle.std.proofs.Common.{◌≡◌, ℕ, Bool, List, Option, Some, None, rules, tests, option_map, find, unwrap_or, ap, ◌∙◌, map, Bor, MatchOption, arith}
+use Rattle.std.proofs.lemmas.Iterator.{YieldsList-from_slice}
+use Rattle.std.proofs.lemmas.Iterator.Search.{find_from_yields_List}
+use Rattle.rules.specs.declared.primitives.PatternID.{PatternID}
 use Rattle.rules.specs.Book.{pattern}
 use Rattle.pattern.specs.Order.{number}
-use Rattle.pattern.specs.Closed.{book_of, order_in}
-use Rattle.finder.proofs.Choosing.{read}
-use Rattle.tables.specs.Buckets.{Alike, leader, front}
-use Rattle.tables.proofs.Fronts.{leader_here, leader_later, leader_none}
+use Rattle.pattern.specs.Closed.{book_of}
+use Rattle.tables.specs.Buckets.{alike, front}
+use Rattle.tables.proofs.Fronts.{alike_is, find-map}
 use Rattle.tables.proofs.bucket.leader_of.Goals as goal
-use Rattle.tables.proofs.bucket.leader_of.Goals.{After-get, After-order-other-items}
 
-fronts : (c : After-order-other-items) → c.min-n.result ≡ front (book_of c.args.book.now)
-fronts c = omega (arith, c.min-n.ensures, c.minimum_len.ensures)
-
--- the pattern that a turn reads
-earlier_is : (c : After-get) → c.get.result.now ≡ pattern (book_of c.args.book.now) (get_or (order_in c.args.book.now) c.loop-i.i 0)
-earlier_is c =
-    c.get.ensures ∙ ap (pattern (book_of c.args.book.now)) (read c.order-other-items.result.now (order_in c.args.book.now) c.loop-i.i c.order-other-items.ensures.same)
-
-turn : (c : After-get) → c.loop-i.i < length (order_in c.args.book.now)
-turn c = omega (arith, c.loop-i-test.true, ap length c.order-other-items.ensures.same, length-map c.order-other-items.result.now number)
-
-pub returns-then-same_front : goal.returns-then-same_front
-returns-then-same_front c =
-    let a = (goal.at.returns-then-same_front c).After-get in
-    let r = (goal.at.returns-then-same_front c).After-order-other-items in
-    let b = book_of c.args.book.now in
-    let ids = order_in c.args.book.now in
-    let i = c.loop-i.i in
-    let p = c.args.pattern.now in
-    let same : Alike (pattern b (get_or ids i 0)) p (front b) = subst (Alike (pattern b (get_or ids i 0)) p) (fronts r) (subst (λ q. Alike q p c.min-n.result) (earlier_is a) c.if-same_front.ensures) in
-    c.as_usize.ensures ∙ (read c.order-other-items.result.now ids i c.order-other-items.ensures.same ∙ sym (c.loop-i.invariant ∙ leader_here b p ids i (turn a) same))
-
-pub loop-i-preserved : goal.loop-i-preserved
-loop-i-preserved c =
-    let a = (goal.at.loop-i-preserved c).After-get in
-    let r = (goal.at.loop-i-preserved c).After-order-other-items in
-    let b = book_of c.args.book.now in
-    let p = c.args.pattern.now in
-    c.loop-i.invariant ∙ leader_later b p (order_in c.args.book.now) c.loop-i.i (turn a)
-    (λ same. c.if-same_front.ensures (subst (Alike c.get.result.now p) (sym (fronts r)) (subst (λ q. Alike q p (front b)) (sym (earlier_is a)) same)))
+-- the number of the id that a search found, by a search of the numbers
+numbered : (test : ℕ → Bool) (xs : List PatternID) (o : Option (Bor PatternID)) (r : ℕ) → option_map (λ y. y.now) o ≡ find (λ x. test (number x)) xs
+    → MatchOption o (r ≡ 0) (λ y. r ≡ number y.now) → r ≡ unwrap_or (find test (map number xs)) 0
+numbered test xs None r e is = rw (find-map number test xs, ← e) is
+numbered test xs (Some y) r e is = rw (find-map number test xs, ← e) is
 
 pub returns : goal.returns
 returns c =
     let b = book_of c.args.book.now in
-    let ids = order_in c.args.book.now in
-    let p = c.args.pattern.now in
-    let past : length ids ≤ c.loop-i.i = omega (arith, c.loop-i-test.false, ap length c.order-other-items.ensures.same, length-map c.order-other-items.result.now number) in
-    sym (c.loop-i.invariant ∙ (ap (λ q. leader b q p) (drop_all c.loop-i.i ids past) ∙ leader_none b p))
+    let test : ℕ → Bool = λ i. alike (pattern b i) c.args.pattern.now (front b) in
+    let xs = c.order.result.now in
+    let n : c.min-n.result ≡ front b = omega (arith, c.min-n.ensures, c.minimum_len.ensures) in
+    let found : option_map (λ (y : Bor PatternID). y.now) c.find.result ≡ find (λ x. test (number x)) xs =
+    find_from_yields_List (λ x. test (number x)) _ _ c.find.result c.find.ensures.ran (YieldsList-from_slice xs cc) (λ x r q k. search (rules, tests, alike_is, n)) in
+    let led : MatchOption c.find.result (c.map_or.result ≡ 0) (λ (y : Bor PatternID). c.map_or.result ≡ number y.now) = search rules in
+    numbered test xs c.find.result c.map_or.result found led ∙ ap (λ ids. unwrap_or (find test ids) 0) c.order.ensures.same

@@ -6,7 +6,7 @@ use Rattle.masks.specs.Candidates.{kept}
 use Rattle.masks.specs.Places.{Shows, Recalls}
 use Rattle.masks.proofs.Exact.{Sees, newer, shows, recalls}
 use Rattle.masks.proofs.Loaded.{sees}
-use Rattle.masks.proofs.window.loaded_window.Goals as goal
+use Rattle.masks.proofs.candidate.Masks.window.Goals as goal
 
 pub returns : goal.returns
 returns g c b ids key low of le saw =
@@ -16,7 +16,7 @@ returns g c b ids key low of le saw =
     let four : 4 ≤ n = ⊎_elim (λ e. omega arith) (λ e. omega arith) wide in
     let text = c.args.text.now in
     let at = c.args.at in
-    let m = c.args.masks.now in
+    let m = c.args.self.now in
     let chunk = c.load.ensures in
     let see : (j : ℕ) (lo hi : List ℕ) → _ → _ → Sees (Admits b ids key) n text at j (members n lo hi (loaded n text at)) =
     λ j lo hi. sees n wide b ids key text (λ i. omega (arith, c.type_inv.text i)) at j lo hi in

@@ -1,8 +1,9 @@
 use Rattle.std.proofs.Common.{◌≡◌, ℕ, ◌*◌, ◌/◌, ◌%◌, ◌^◌, ◌<◌, ◌≤◌, length, get_or, take, ap, ◌∙◌, arith}
 use lib.Bits.{bit_or}
+use lib.ListN.{get_or-map}
 use Rattle.std.proofs.lemmas.Nat.{one_shl}
 use Rattle.std.proofs.lemmas.List.{length-map, take_all}
-use Rattle.rules.specs.Book.{pattern}
+use Rattle.rules.specs.Book.{id, pattern}
 use Rattle.pattern.specs.Order.{number}
 use Rattle.pattern.specs.Closed.{book_of, order_in}
 use Rattle.finder.proofs.Choosing.{read}
@@ -10,16 +11,13 @@ use Rattle.vector.specs.Lanes.{lane}
 use Rattle.vector.specs.Rows.{row_is}
 use Rattle.tables.specs.Masks.{byte_of, marks}
 use Rattle.tables.proofs.Marking.{marked_more}
-use Rattle.tables.proofs.mask.MaskTable.marked.Goals as goal
-use Rattle.tables.proofs.mask.MaskTable.marked.Goals.{After-as_usize}
+use Rattle.tables.proofs.mask.MaskTable.new.Goals as goal
+use Rattle.tables.proofs.mask.MaskTable.new.Goals.{After-as_usize}
 
 known : (c : After-as_usize) → c.as_usize.result < 1024
 known c =
     let xs = c.order-id-items.result.now in
-    let ids = order_in c.args.book.now in
-    let is = read xs ids c.loop-i.i c.order-id-items.ensures.same in
-    let same = ap (λ q. get_or q c.loop-i.i 0) c.order-id-items.ensures.same in
-    omega (arith, c.as_usize.ensures, is, same, c.order-id-items.ensures.order.known c.loop-i.i (omega (arith, length-map xs number)), c.args.book.now.few)
+    omega (arith, c.as_usize.ensures, get_or-map number xs c.loop-id.id-index (id 0), c.order-id-items.ensures.order.known c.loop-id.id-index (omega (arith, length-map xs number)), c.args.book.now.few)
 
 pub offset_bounds-buckets-as_usize : goal.offset_bounds-buckets-as_usize
 offset_bounds-buckets-as_usize c = omega (arith, known (goal.at.offset_bounds-buckets-as_usize c).After-as_usize)
@@ -27,25 +25,25 @@ offset_bounds-buckets-as_usize c = omega (arith, known (goal.at.offset_bounds-bu
 pub bounds-buckets-as_usize : goal.bounds-buckets-as_usize
 bounds-buckets-as_usize c = known (goal.at.bounds-buckets-as_usize c).After-as_usize
 
-pub loop-i-preserved : goal.loop-i-preserved
-loop-i-preserved c =
+pub loop-id-preserved : goal.loop-id-preserved
+loop-id-preserved c =
     let b = book_of c.args.book.now in
     let ids = order_in c.args.book.now in
     let key : ℕ → ℕ = λ i. get_or c.args.buckets.now i 0 % 8 in
-    let i = c.loop-i.i in
+    let i = c.loop-id.id-index in
     let j = c.args.j in
     let xs = c.order-id-items.result.now in
     let is = read xs ids i c.order-id-items.ensures.same in
-    let il : i < length ids = omega (arith, c.loop-i-test.true, ap length c.order-id-items.ensures.same, length-map xs number) in
+    let il : i < length ids = omega (arith, c.loop-id-test.true, ap length c.order-id-items.ensures.same, length-map xs number) in
     let x = c.byte_at-byte.result in
     let byte : x ≡ byte_of b j (get_or ids i 0) = c.byte_at-byte.ensures ∙ ap (λ p. get_or p j 0) (c.get.ensures ∙ ap (pattern b) is) in
     let fits : x < 256 = omega arith in
     let k = get_or c.args.buckets.now c.as_usize.result 0 % 8 in
     let bit : (1 * 2 ^ k) % 256 ≡ 2 ^ key (get_or ids i 0) = one_shl k 8 (omega arith) ∙ ap (λ m. 2 ^ key m) (c.as_usize.ensures ∙ is) in (
-      marked_more key (λ m. byte_of b j m % 16) ids c.loop-i.lo i (x % 16) (bit_or (lane c.loop-i.lo (x % 16)) ((1 * 2 ^ k) % 256)) il c.loop-i.invariant.0
-          (ap (λ y. y % 16) byte) (omega arith) (ap (bit_or (lane c.loop-i.lo (x % 16))) bit),
-      marked_more key (λ m. byte_of b j m / 16) ids c.loop-i.hi i (x / 16) (bit_or (lane c.loop-i.hi (x / 16)) ((1 * 2 ^ k) % 256)) il c.loop-i.invariant.1
-          (ap (λ y. y / 16) byte) (omega arith) (ap (bit_or (lane c.loop-i.hi (x / 16))) bit),
+      marked_more key (λ m. byte_of b j m % 16) ids c.loop-id.lo i (x % 16) (bit_or (lane c.loop-id.lo (x % 16)) ((1 * 2 ^ k) % 256)) il c.loop-id.invariant.0
+          (ap (λ y. y % 16) byte) (omega arith) (ap (bit_or (lane c.loop-id.lo (x % 16))) bit),
+      marked_more key (λ m. byte_of b j m / 16) ids c.loop-id.hi i (x / 16) (bit_or (lane c.loop-id.hi (x / 16)) ((1 * 2 ^ k) % 256)) il c.loop-id.invariant.1
+          (ap (λ y. y / 16) byte) (omega arith) (ap (bit_or (lane c.loop-id.hi (x / 16))) bit),
     )
 
 pub returns : goal.returns
@@ -54,9 +52,9 @@ returns c =
     let ids = order_in c.args.book.now in
     let key : ℕ → ℕ = λ i. get_or c.args.buckets.now i 0 % 8 in
     let j = c.args.j in
-    let le : length ids ≤ c.loop-i.i = omega (arith, c.loop-i-test.false, ap length c.order-id-items.ensures.same, length-map c.order-id-items.result.now number) in
-    let all : take c.loop-i.i ids ≡ ids = take_all c.loop-i.i ids le in
+    let le : length ids ≤ c.loop-id.id-index = omega (arith, c.loop-id-test.false, ap length c.order-id-items.ensures.same, length-map c.order-id-items.result.now number) in
+    let all : take c.loop-id.id-index ids ≡ ids = take_all c.loop-id.id-index ids le in
     record {
-      lo = row_is 16 (λ n. marks key (λ m. byte_of b j m % 16) n ids) c.loop-i.lo c.loop-i.invariant.0.0 (λ n lt. c.loop-i.invariant.0.1 n lt ∙ ap (marks key (λ m. byte_of b j m % 16) n) all);
-      hi = row_is 16 (λ n. marks key (λ m. byte_of b j m / 16) n ids) c.loop-i.hi c.loop-i.invariant.1.0 (λ n lt. c.loop-i.invariant.1.1 n lt ∙ ap (marks key (λ m. byte_of b j m / 16) n) all);
+      lo = row_is 16 (λ n. marks key (λ m. byte_of b j m % 16) n ids) c.loop-id.lo c.loop-id.invariant.0.0 (λ n lt. c.loop-id.invariant.0.1 n lt ∙ ap (marks key (λ m. byte_of b j m % 16) n) all);
+      hi = row_is 16 (λ n. marks key (λ m. byte_of b j m / 16) n ids) c.loop-id.hi c.loop-id.invariant.1.0 (λ n lt. c.loop-id.invariant.1.1 n lt ∙ ap (marks key (λ m. byte_of b j m / 16) n) all);
     }

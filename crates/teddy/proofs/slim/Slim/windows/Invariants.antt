@@ -9,34 +9,38 @@ use Rattle.masks.specs.Places.{RecallsAll}
 use Rattle.teddy.specs.Held.{book_in, ids_in, key_in}
 use Rattle.teddy.proofs.Digits.{SetAt}
 use Rattle.teddy.proofs.Hits.{Sits}
-use Rattle.teddy.proofs.slim.find.windows.Given as goal
+use Rattle.teddy.proofs.slim.Slim.windows.Given as goal
 
 -- nothing occurs before the window, and the windows since some place recall what they saw
 abbrev pub invariant-search : goal.invariant-search
 invariant-search g l =
     let means = g.V.Vector.lanes in
-    let t = l.teddy.tables in
+    let t = l.self.teddy.tables in
     let back = l.masks.count - 1 in
-    (l.from + back ≤ l.at) × (l.at ≤ l.end) × ((x : ℕ) → 8 * l.from ≤ x → x < 8 * (l.at - back) → Sits (book_in t) l.text (key_in t) x → ⊥)
-    × ((low : ℕ) × (low ≤ l.at) × RecallsAll (Admits (book_in t) (ids_in t) (key_in t)) l.masks.count low g.V.Vector.count l.at l.text (means l.seen.first) (means l.seen.second) (means l.seen.third))
+    record {
+      low : l.from + back ≤ l.at;
+      high : l.at ≤ l.end;
+      clean : (x : ℕ) → 8 * l.from ≤ x → x < 8 * (l.at - back) → Sits (book_in t) l.text (key_in t) x → ⊥;
+      seen : (low : ℕ) × (low ≤ l.at) × RecallsAll (Admits (book_in t) (ids_in t) (key_in t)) l.masks.count low g.V.Vector.count l.at l.text (means l.seen.first) (means l.seen.second) (means l.seen.third);
+    }
 
 abbrev pub decreases-search : goal.decreases-search
 decreases-search g l = l.end - l.at
 
 abbrev pub invariant-loop-k : goal.invariant-loop-k
 invariant-loop-k g l =
-    let t = l.teddy.tables in
+    let t = l.self.teddy.tables in
     (y : ℕ) → y < 64 * l.k → SetAt (g.V.Vector.lanes l.found) y → Sits (book_in t) l.text (key_in t) (8 * (l.at - l.back) + y) → ⊥
 
 abbrev pub invariant-loop-digit : goal.invariant-loop-digit
 invariant-loop-digit g l =
-    let t = l.teddy.tables in
+    let t = l.self.teddy.tables in
     (j : ℕ) → IsSet (lane64 (g.V.Vector.lanes l.found) l.k) j → IsSet l.rest j ⊎ (Sits (book_in t) l.text (key_in t) (8 * (l.at - l.back) + 64 * l.k + j) → ⊥)
 
 abbrev pub decreases-loop-digit : goal.decreases-loop-digit
 decreases-loop-digit g l = l.rest
 
-abbrev pub invariant-loop-i : goal.invariant-loop-i
-invariant-loop-i g l =
-    let t = l.teddy.tables in
-    (j : ℕ) → j < l.i → Stands (pattern (book_in t) (get_or (in_bucket (key_in t) (ids_in t) (l.bit % 8)) j 0)) l.text l.start → ⊥
+abbrev pub invariant-loop-id : goal.invariant-loop-id
+invariant-loop-id g l =
+    let t = l.self.teddy.tables in
+    (j : ℕ) → j < l.id-index → Stands (pattern (book_in t) (get_or (in_bucket (key_in t) (ids_in t) (l.bit % 8)) j 0)) l.text l.start → ⊥

@@ -1,0 +1,8 @@
+use Rattle.std.proofs.Common.{rules}
+use Rattle.masks.proofs.LookUps.{looked_up}
+use Rattle.masks.proofs.mask.Mask.members1.Goals as goal
+
+pub returns : goal.returns
+returns g c =
+    let bytes = g.met.V.Vector.bytes c.args.chunk in
+    search (rules, looked_up, bytes)
