@@ -1,9 +1,9 @@
 ghost use Rattle.std.specs.Prelude.{◌≡◌, map, vec_len, MatchResult};
 ghost use Rattle.std.specs.List.{AllByRecursion};
 ghost use Rattle.rules.specs.Ledger.{ask_scan, ask_tally};
-ghost use Rattle.rules.specs.History.{Past, opened, then};
+ghost use Rattle.rules.specs.History.{Past, opened};
 ghost use Rattle.intake.specs.Calls.{asks, tell, pairs, following, Outside};
-ghost use Rattle.intake.specs.Intakes.{Serves};
+ghost use Rattle.intake.specs.Intakes.{Serves, ServesCall};
 
 use crate::intake::Intake;
 use finder::finder::Finder;
@@ -33,7 +33,7 @@ pub enum Reply {
 fn scan_into<F: Finder>(intake: &mut Intake<F>, text: &[u8], mut hits: Vec<Match>) -> Reply
     ensures finder { intake.new.finder ≡ intake.old.finder }
     ensures outside { Outside result }
-    ensures served { (p : Past) → Serves F.book p intake.old → Serves F.book (then p (ask_scan text.now hits.items) (tell result)) intake.new }
+    ensures served { ServesCall F.book intake.old (ask_scan text.now hits.items) (tell result) intake.new }
 {
     let answer = intake.scan(text, hits.as_mut_slice());
     Reply::Scanned(answer, hits)
@@ -42,7 +42,7 @@ fn scan_into<F: Finder>(intake: &mut Intake<F>, text: &[u8], mut hits: Vec<Match
 // Asks for a tally.
 fn tally_of<F: Finder>(intake: &Intake<F>, id: PatternID) -> Reply
     ensures outside { Outside result }
-    ensures served { (p : Past) → Serves F.book p intake.now → Serves F.book (then p (ask_tally id.0.0) (tell result)) intake.now }
+    ensures served { ServesCall F.book intake.now (ask_tally id.0.0) (tell result) intake.now }
 {
     Reply::Tallied(intake.tally(id))
 }
@@ -51,7 +51,7 @@ fn tally_of<F: Finder>(intake: &Intake<F>, id: PatternID) -> Reply
 pub fn serve<F: Finder>(intake: &mut Intake<F>, call: Call<'_>) -> Reply
     ensures finder { intake.new.finder ≡ intake.old.finder }
     ensures outside { Outside result }
-    ensures served { (p : Past) → Serves F.book p intake.old → Serves F.book (then p (asks call.entry) (tell result)) intake.new }
+    ensures served { ServesCall F.book intake.old (asks call.entry) (tell result) intake.new }
 {
     match call {
         Call::Scan { text, hits } => scan_into(intake, text, hits),
