@@ -1,8 +1,7 @@
 -- One scan, and the ledger's texts.
-use Rattle.std.proofs.Common.{◌≡◌, ℕ, ◌+◌, ◌<◌, ◌≤◌, ltb, leb, List, length, get_or, take, drop, replicate, Ok, Err, Result, sym, refl, ap, ◌∙◌, subst, ⊎_elim, arith}
-use Rattle.std.specs.List.{AllByRecursion}
-use Rattle.std.proofs.ByRecursion.{All-weaker}
+use Rattle.std.proofs.Common.{◌≡◌, ℕ, ◌+◌, ◌<◌, ◌≤◌, ltb, leb, List, All, length, get_or, take, drop, replicate, Ok, Err, Result, sym, refl, ap, ◌∙◌, subst, ⊎_elim, arith}
 use Rattle.std.proofs.lemmas.List.{take_at, length_push, get_or-replicate, get_or_past}
+use Rattle.std.proofs.lemmas.List.Elements.{All-from_recursion}
 use Rattle.std.proofs.lemmas.List.Sums.{sum_by_push}
 use Rattle.std.proofs.lemmas.Bool.{cond_both, cases_lt, ltb-false, leb-false}
 use Rattle.rules.specs.declared.primitives.Match.{Match}
@@ -16,17 +15,11 @@ use Rattle.rules.specs.Ledger.{State, starts, accepts, hits_with, hits_of, scan_
 use Rattle.rules.specs.History.{Model, Counted, Keeps}
 use Rattle.rules.proofs.Listings.{listing_covers}
 
--- what `hits_of` is at the making, and once one more text is accepted
-pub hits_of_none : (b : Book) (i : ℕ) → hits_of (starts b) i ≡ 0
-hits_of_none b i = refl
-
+-- what `hits_of` is once one more text is accepted
 pub hits_of_more : (s : State) (t : List ℕ) (i : ℕ) → hits_of (accepts s t) i ≡ hits_of s i + hits_with i (listing s.book t)
 hits_of_more s t i = sum_by_push (λ u. hits_with i (listing s.book u)) s.texts t
 
--- what `hits_after` is after a refusal and otherwise
-pub hits_refused : (b : Book) (t : List ℕ) (hs : List Match) (k : Refusal) → hits_after {X = ℕ} b t hs (Err k) ≡ hs
-hits_refused b t hs k = refl
-
+-- what `hits_after` begins with
 pub hits_front : (b : Book) (t : List ℕ) (hs hs' : List Match) (n : ℕ) → n ≡ length (listing b t) → hs' ≡ hits_after {E = Refusal} b t hs (Ok n) → take n hs' ≡ listing b t
 hits_front b t hs hs' n l e = ap (take n) e ∙ take_at (listing b t) (drop (length (listing b t)) hs) n (sym l)
 
@@ -67,8 +60,8 @@ placed_ok at k (Err f) e = absurd (let z : ◌≡◌ {A = ℕ} 0 1 = cc in omega
 pub accepted_at : (at : ℕ) (b : Book) (n : ℕ) (t : List ℕ) (room k : ℕ) → Ok k ≡ placed at (scan_answer b n t room) → Accepted b n t room k
 accepted_at at b n t room k e = accepted b n t room k (placed_ok at k (scan_answer b n t room) e)
 
-pub listing_ids : (b : Book) (t : List ℕ) → Within b → AllByRecursion (λ m. id_of m < 1024) (listing b t)
-listing_ids b t w = All-weaker (Occurs b t) (λ m. id_of m < 1024) (λ m h. omega (arith, h.here.known, w.few)) (listing b t) (listing_covers b w t).occur
+pub listing_ids : (b : Book) (t : List ℕ) → Within b → All (λ m. id_of m < 1024) (listing b t)
+listing_ids b t w k d l = let h = All-from_recursion (Occurs b t) (listing b t) (listing_covers b w t).occur k d l in omega (arith, h.here.known, w.few)
 
 pub keeps_none : (b : Book) (m : Model) → m.book ≡ b → m.accepted ≡ 0 → m.tallies ≡ replicate 1024 0 → Keeps (starts b) m
 keeps_none b m same none zeros = record {

@@ -1,6 +1,5 @@
-use Rattle.std.proofs.Common.{◌≡◌, ◌+◌, ◌-◌, ◌<◌, length, get_or, take, Ok, Err, sym, refl, ap, ◌∙◌, subst, arith}
+use Rattle.std.proofs.Common.{◌≡◌, ◌+◌, ◌-◌, ◌<◌, All, length, get_or, take, Ok, Err, sym, refl, ap, ◌∙◌, subst, arith}
 use native.Mathlib.Nat.{sub-zero}
-use Rattle.std.specs.List.{AllByRecursion}
 use Rattle.std.proofs.lemmas.Result.{err_from_is_err_and}
 use Rattle.rules.specs.Book.{Book, Within}
 use Rattle.rules.specs.Search.{id_of}
@@ -33,8 +32,7 @@ pub raise_all-requires : goal.raise_all-requires
 raise_all-requires g c =
     let at = (goal.at.raise_all-requires g c).After-write_hits in
     record {
-      sized = c.args.self.now.sized;
-      known = subst (AllByRecursion (λ m. id_of m < 1024)) (sym (front g at)) (listing_ids _ _ (within g at));
+      known = subst (All (λ m. id_of m < 1024)) (sym (front g at)) (listing_ids _ _ (within g at));
       room = omega (arith, ap length (front g at), rest_short _ (within g at) c.args.text.now 0, c.args.self.now.room, (due g at).short, (due g at).few);
     }
 
@@ -43,7 +41,6 @@ invariant_of-self g c =
     let at = (goal.at.invariant_of-self g c).After-write_hits in
     let e = c.raise_all.ensures in
     record {
-      sized = e.len;
       few = omega (arith, (due g at).few);
       room = omega (arith, e.total, ap length (front g at), rest_short _ (within g at) c.args.text.now 0, c.args.self.now.room, (due g at).short);
     }
