@@ -1,12 +1,8 @@
 -- One tally raised.
-use Rattle.std.proofs.Common.{◌≡◌, ℕ, zero, suc, ◌+◌, ◌<◌, cond, eqb, List, [], ◌∷◌, map, length, get_or, take, set, sym, refl, ap, ◌∙◌, ⊎_elim, arith}
+use Rattle.std.proofs.Common.{◌≡◌, ℕ, List, map, get_or, set}
 use Rattle.std.proofs.Math.ListN.{get_or-map}
-use Rattle.std.proofs.lemmas.List.{map-set, get_or-set_same, get_or-set_other}
-use Rattle.std.proofs.lemmas.List.Sums.{sum_by_more}
-use Rattle.std.proofs.lemmas.Bool.{cases_eq, eq-eqb, ne_eqb}
+use Rattle.std.proofs.lemmas.List.{map-set}
 use Rattle.rules.specs.declared.primitives.Match.{Match}
-use Rattle.rules.specs.Search.{id_of}
-use Rattle.rules.specs.Ledger.{hits_with}
 use Rattle.intake.specs.declared.table.Tally.{Tally}
 
 -- a tally is what its record has
