@@ -1,12 +1,12 @@
 -- One scan, and the ledger's texts.
-use Rattle.std.proofs.Common.{◌≡◌, ℕ, ◌+◌, ◌<◌, ◌≤◌, ltb, leb, List, All, length, get_or, take, drop, replicate, Ok, Err, Result, sym, refl, ap, ◌∙◌, subst, ⊎_elim, arith}
+use Rattle.std.proofs.Common.{◌≡◌, ℕ, ◌+◌, ◌<◌, ◌≤◌, List, All, length, get_or, take, drop, replicate, Ok, Err, Result, sym, refl, ap, ◌∙◌, subst, ⊎_elim, arith}
 use Rattle.std.proofs.lemmas.List.{take_at, length_push, get_or-replicate, get_or_past}
 use Rattle.std.proofs.lemmas.List.Elements.{All-from_recursion}
 use Rattle.std.proofs.lemmas.List.Sums.{sum_by_push}
-use Rattle.std.proofs.lemmas.Bool.{cond_both, cases_lt, ltb-false, leb-false}
+use Rattle.std.proofs.lemmas.Bool.{cases_lt}
+use Rattle.std.proofs.lemmas.Bool.Decides.{nat_tests}
 use Rattle.rules.specs.declared.primitives.Match.{Match}
 use Rattle.rules.specs.declared.fault.Refusal.{Refusal}
-use Rattle.rules.specs.declared.fault.Refusal.TheVariants.{TextTooLong, TooManyTexts, HitsTooShort}
 use Rattle.rules.specs.Book.{Book, Within, count_of}
 use Rattle.rules.specs.Search.{id_of, Occurs}
 use Rattle.rules.specs.Listing.{listing}
@@ -32,12 +32,6 @@ pub hits_placed : (at : ℕ) (b : Book) (t : List ℕ) (hs : List Match) (r : Re
 hits_placed at b t hs (Ok x) = refl
 hits_placed at b t hs (Err k) = refl
 
-ok_err : (k : ℕ) (e : Refusal) → ◌≡◌ {A = Result ℕ Refusal} (Ok k) (Err e) → ⊥
-ok_err k e p = let z : ◌≡◌ {A = ℕ} 0 1 = cc in omega arith
-
-ok_ok : (k n : ℕ) → ◌≡◌ {A = Result ℕ Refusal} (Ok k) (Ok n) → k ≡ n
-ok_ok k n p = cc
-
 -- what is known of a scan that is accepted
 pub record Accepted (b : Book) (n : ℕ) (t : List ℕ) (room k : ℕ) : Type 0 where
   pub hits : k ≡ length (listing b t)
@@ -46,19 +40,14 @@ pub record Accepted (b : Book) (n : ℕ) (t : List ℕ) (room k : ℕ) : Type 0 
   pub fits : length (listing b t) ≤ room
 
 pub accepted : (b : Book) (n : ℕ) (t : List ℕ) (room k : ℕ) → Ok k ≡ scan_answer b n t room → Accepted b n t room k
-accepted b n t room k =
-    let P : Result ℕ Refusal → Type 0 = λ x. Ok k ≡ x → Accepted b n t room k in
-    cond_both (ltb 65536 (length t)) _ _ P (λ _ e. absurd (ok_err k TextTooLong e)) (λ short.
-    cond_both (leb 65535 n) _ _ P (λ _ e. absurd (ok_err k TooManyTexts e)) (λ few.
-    cond_both (ltb room (length (listing b t))) _ _ P (λ _ e. absurd (ok_err k HitsTooShort e)) (λ fits e.
-    record { hits = ok_ok k (length (listing b t)) e; short = ltb-false 65536 (length t) short; few = leb-false 65535 n few; fits = ltb-false room (length (listing b t)) fits })))
-
-placed_ok : (at k : ℕ) (r : Result ℕ Refusal) → Ok k ≡ placed at r → Ok k ≡ r
-placed_ok at k (Ok x) e = ap Ok (let s : k ≡ x = cc in s)
-placed_ok at k (Err f) e = absurd (let z : ◌≡◌ {A = ℕ} 0 1 = cc in omega arith)
+accepted b n t room k h = record { hits = grind (arith, nat_tests); short = grind (arith, nat_tests); few = grind (arith, nat_tests); fits = grind (arith, nat_tests) }
 
 pub accepted_at : (at : ℕ) (b : Book) (n : ℕ) (t : List ℕ) (room k : ℕ) → Ok k ≡ placed at (scan_answer b n t room) → Accepted b n t room k
 accepted_at at b n t room k e = accepted b n t room k (placed_ok at k (scan_answer b n t room) e)
+  where
+    placed_ok : (at k : ℕ) (r : Result ℕ Refusal) → Ok k ≡ placed at r → Ok k ≡ r
+    placed_ok at k (Ok x) e = cc
+    placed_ok at k (Err f) e = cc
 
 pub listing_ids : (b : Book) (t : List ℕ) → Within b → All (λ m. id_of m < 1024) (listing b t)
 listing_ids b t w k d l = let h = All-from_recursion (Occurs b t) (listing b t) (listing_covers b w t).occur k d l in omega (arith, h.here.known, w.few)
