@@ -1,10 +1,9 @@
 -- One event more of an intake.
-use Rattle.std.proofs.Common.{◌≡◌, ℕ, cond, ltb, List, [], ◌∷◌, ◌++◌, length, get_or, is_ok, Ok, Err, Result, sym, refl, ap, ◌∙◌, subst, ⊎_elim, MatchResult}
-use Rattle.std.proofs.lemmas.Bool.{cond-false, le-ltb, cases_lt}
+use Rattle.std.proofs.Common.{◌≡◌, ℕ, cond, List, [], ◌∷◌, ◌++◌, length, is_ok, Ok, Err, Result, sym, refl, ap, ◌∙◌, subst, MatchResult, arith}
+use Rattle.std.proofs.lemmas.Bool.Decides.{nat_tests}
 use Rattle.rules.specs.declared.primitives.Match.{Match}
 use Rattle.rules.specs.declared.fault.Fault.{Fault}
 use Rattle.rules.specs.declared.fault.Refusal.{Refusal}
-use Rattle.rules.specs.declared.fault.Refusal.TheVariants.{UnknownPattern}
 use Rattle.rules.specs.Book.{Book, Within, count_of}
 use Rattle.rules.specs.Listing.{Covers}
 use Rattle.rules.specs.Faults.{placed, numbered, told}
@@ -59,10 +58,7 @@ served_scan p at t hs hs' r m m' w answer hits done s =
 
 -- what an intake answers for a tally is the ledger's
 tally_is : (s : State) (m : Model) (i : ℕ) → Keeps s m → tally_in m i ≡ tally_answer s i
-tally_is s m i k = ap (λ b. cond (ltb i (count_of b)) (Ok (get_or m.tallies i 0)) (Err UnknownPattern)) k.book ∙ ⊎_elim
-    (λ l. ap (λ x. cond (ltb i (count_of s.book)) (Ok x) (Err UnknownPattern)) (k.tallies i l))
-    (λ l. cond-false _ _ _ (le-ltb i (count_of s.book) l) ∙ sym (cond-false _ _ _ (le-ltb i (count_of s.book) l)))
-    (cases_lt i (count_of s.book))
+tally_is s m i k = let h = k.tallies i in let same = ap count_of k.book in grind (arith, nat_tests)
 
 pub served_tally : (p : Past) (at i : ℕ) (r : Result ℕ Fault) (m : Model) → r ≡ placed at (tally_in m i) → Served p m → Served (then p (ask_tally i) (told_tally (told r))) m
 served_tally p at i r m answer s =

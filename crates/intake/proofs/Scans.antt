@@ -1,10 +1,10 @@
 -- One scan, and the ledger's texts.
-use Rattle.std.proofs.Common.{◌≡◌, ℕ, ◌+◌, ◌<◌, ◌≤◌, List, All, length, get_or, take, drop, replicate, Ok, Err, Result, sym, refl, ap, ◌∙◌, subst, ⊎_elim, arith}
-use Rattle.std.proofs.lemmas.List.{take_at, length_push, get_or-replicate, get_or_past}
+use Rattle.std.proofs.Common.{◌≡◌, ℕ, ◌+◌, ◌<◌, ◌≤◌, List, All, length, get_or, take, drop, replicate, Ok, Err, Result, sym, refl, ap, ◌∙◌, subst, arith}
+use Rattle.std.proofs.lemmas.List.{take_at, length_push}
 use Rattle.std.proofs.lemmas.List.Elements.{All-from_recursion}
 use Rattle.std.proofs.lemmas.List.Sums.{sum_by_push}
-use Rattle.std.proofs.lemmas.Bool.{cases_lt}
 use Rattle.std.proofs.lemmas.Bool.Decides.{nat_tests}
+use Rattle.std.proofs.lemmas.Grind.{common_steps}
 use Rattle.rules.specs.declared.primitives.Match.{Match}
 use Rattle.rules.specs.declared.fault.Refusal.{Refusal}
 use Rattle.rules.specs.Book.{Book, Within, count_of}
@@ -52,11 +52,14 @@ accepted_at at b n t room k e = accepted b n t room k (placed_ok at k (scan_answ
 pub listing_ids : (b : Book) (t : List ℕ) → Within b → All (λ m. id_of m < 1024) (listing b t)
 listing_ids b t w k d l = let h = All-from_recursion (Occurs b t) (listing b t) (listing_covers b w t).occur k d l in omega (arith, h.here.known, w.few)
 
+zero_at : (n i : ℕ) → ◌≡◌ {A = ℕ} (get_or (replicate n 0) i 0) 0
+zero_at n i = grind (arith, common_steps)
+
 pub keeps_none : (b : Book) (m : Model) → m.book ≡ b → m.accepted ≡ 0 → m.tallies ≡ replicate 1024 0 → Keeps (starts b) m
 keeps_none b m same none zeros = record {
   book = same;
   count = none;
-  tallies = λ i l. ap (λ xs. get_or xs i 0) zeros ∙ ⊎_elim (λ q. get_or-replicate 1024 i 0 0 q) (λ q. get_or_past (replicate 1024 0) i 0 q) (cases_lt i 1024);
+  tallies = λ i l. ap (λ xs. get_or xs i 0) zeros ∙ zero_at 1024 i;
 }
 
 pub keeps_more : (s : State) (m m' : Model) (t : List ℕ) → Counted m t m' → Keeps s m → Keeps (accepts s t) m'
