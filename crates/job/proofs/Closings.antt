@@ -10,7 +10,7 @@ use Rattle.job.specs.Opening.{closes}
 -- by whether the book has no patterns, and whether the mask count is a wrong one
 by_tests : (b : Book) (at : ℕ) (e : Fault) (none wrong : Bool) → wrong ≡ false → MatchOption (cond none (Some NoPatterns) (cond wrong (Some BadMaskCount) None)) ⊥ (λ x. e ≡ refused at x) → cond {A = Result Book Fault} none (Err (refused at NoPatterns)) (Ok b) ≡ Err e
 by_tests b at e true wrong w h = ap Err (sym h)
-by_tests b at e false true w h = absurd (let z : ◌≡◌ {A = ℕ} 0 1 = cc in omega arith)
+by_tests b at e false true w h = cc
 by_tests b at e false false w h = absurd h
 
 pub closing_fault : (b : Book) (at : ℕ) (e : Fault) → 0 < shortest b → MatchOption (checking b (min (shortest b) 4)) ⊥ (λ x. e ≡ refused at x) → closes b at ≡ Err e

@@ -18,25 +18,18 @@ step_over job at h = cond-true (leb (length job) at) _ _ (le-leb (length job) at
 
 settled_good : (r : Result Entry Refusal) (n next : ℕ) (e : Entry) → settled r n ≡ good e next → n ≡ next
 settled_good (Ok x) n next e h = cc
-settled_good (Err x) n next e h = absurd (let z : ◌≡◌ {A = ℕ} 0 1 = cc in omega arith)
-
-not_good : (s : Step) (e : Entry) (next : ℕ) → s ≡ good e next → (s ≡ over) ⊎ (s ≡ bad Truncated) → ⊥
-not_good s e next h (inl q) = let z : ◌≡◌ {A = ℕ} 0 1 = cc in omega arith
-not_good s e next h (inr q) = let z : ◌≡◌ {A = ℕ} 0 1 = cc in omega arith
-
-bad_over : (r : Refusal) → bad r ≡ over → ⊥
-bad_over r h = let z : ◌≡◌ {A = ℕ} 0 1 = cc in omega arith
+settled_good (Err x) n next e h = cc
 
 settled_over : (r : Result Entry Refusal) (n : ℕ) → settled r n ≡ over → ⊥
-settled_over (Ok x) n h = let z : ◌≡◌ {A = ℕ} 0 1 = cc in omega arith
-settled_over (Err x) n h = bad_over x h
+settled_over (Ok x) n h = cc
+settled_over (Err x) n h = cc
 
 -- the place behind a record lies behind its mark, and within the job
 pub step_next : (job : List ℕ) (at next : ℕ) (e : Entry) → step job at ≡ good e next → (at < next) × (next ≤ length job)
 step_next job at next e =
-    cond_both (leb (length job) at) _ _ (λ s. s ≡ good e next → (at < next) × (next ≤ length job)) (λ _ h. absurd (not_good over e next h (inl refl))) (λ _.
-    cond_both (ltb (length job) (at + 4)) _ _ (λ s. s ≡ good e next → (at < next) × (next ≤ length job)) (λ _ h. absurd (not_good (bad Truncated) e next h (inr refl))) (λ _.
-    cond_both (ltb (length job) (at + 4 + size job at)) _ _ (λ s. s ≡ good e next → (at < next) × (next ≤ length job)) (λ _ h. absurd (not_good (bad Truncated) e next h (inr refl))) (λ q h.
+    cond_both (leb (length job) at) _ _ (λ s. s ≡ good e next → (at < next) × (next ≤ length job)) (λ _ h. cc) (λ _.
+    cond_both (ltb (length job) (at + 4)) _ _ (λ s. s ≡ good e next → (at < next) × (next ≤ length job)) (λ _ h. cc) (λ _.
+    cond_both (ltb (length job) (at + 4 + size job at)) _ _ (λ s. s ≡ good e next → (at < next) × (next ≤ length job)) (λ _ h. cc) (λ q h.
     let le = ltb-false (length job) (at + 4 + size job at) q in
     let is = settled_good _ (at + 4 + size job at) next e h in
     (omega arith, omega arith))))
@@ -45,5 +38,5 @@ step_next job at next e =
 pub step_end : (job : List ℕ) (at : ℕ) → step job at ≡ over → length job ≤ at
 step_end job at =
     cond_both (leb (length job) at) _ _ (λ s. s ≡ over → length job ≤ at) (λ q _. leb-true (length job) at q) (λ _.
-    cond_both (ltb (length job) (at + 4)) _ _ (λ s. s ≡ over → length job ≤ at) (λ _ h. absurd (bad_over Truncated h)) (λ _.
-    cond_both (ltb (length job) (at + 4 + size job at)) _ _ (λ s. s ≡ over → length job ≤ at) (λ _ h. absurd (bad_over Truncated h)) (λ q h. absurd (settled_over _ (at + 4 + size job at) h))))
+    cond_both (ltb (length job) (at + 4)) _ _ (λ s. s ≡ over → length job ≤ at) (λ _ h. cc) (λ _.
+    cond_both (ltb (length job) (at + 4 + size job at)) _ _ (λ s. s ≡ over → length job ≤ at) (λ _ h. cc) (λ q h. absurd (settled_over _ (at + 4 + size job at) h))))

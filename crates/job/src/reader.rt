@@ -38,6 +38,7 @@ impl<'a> Reader<'a> {
         let Some(body) = rest.get(..size) else {
             return Err(truncated);
         };
+        // By `map_err` and `?` the proof of the fault stays open.
         match record_of(*x, *y, body) {
             Ok(record) => {
                 self.at = at + 4 + size;

@@ -10,7 +10,7 @@ use Rattle.account.proofs.scans.scan_text.Goals as goal
 
 ok_placed : (at n : ℕ) (x : Result ℕ Refusal) → Ok n ≡ placed at x → is_ok x ≡ true
 ok_placed at n (Ok k) h = refl
-ok_placed at n (Err k) h = absurd (let z : ◌≡◌ {A = ℕ} 0 1 = cc in omega arith)
+ok_placed at n (Err k) h = cc
 
 pub returns : goal.returns
 returns g c =
