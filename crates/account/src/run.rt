@@ -40,7 +40,7 @@ fn sum_up<F: Finder + Drop>(
     ensures { Sums (F.book finder) (reading texts.entry.job.now texts.entry.at) lines.new.items result }
 {
     let count = finder.pattern_count();
-    let intake = scan_texts(heap, finder, texts, lines)?;
+    let intake = scan_texts(finder, texts, lines)?;
     let tallies = tallies(heap, &intake, count)?;
     Ok(Summary {
         texts: intake.count(),
