@@ -4,10 +4,6 @@ use Rattle.account.specs.declared.account.Line.{Line}
 use Rattle.account.specs.Accounts.{shown_line}
 use Rattle.account.specs.Printed.{newline, printed_lines, tally_line, printed_tallies}
 
-pub lines-push : (ls : List Line) (l : Line) → printed_lines (ls ++ l ∷ []) ≡ printed_lines ls ++ (shown_line l ++ newline)
-lines-push [] l = append-nil (shown_line l ++ newline)
-lines-push (k ∷ ls) l = ap (λ xs. (shown_line k ++ newline) ++ xs) (lines-push ls l) ∙ sym (append_assoc (shown_line k ++ newline) (printed_lines ls) (shown_line l ++ newline))
-
 pub tallies-push : (i : ℕ) (ns : List ℕ) (n : ℕ) → printed_tallies i (ns ++ n ∷ []) ≡ printed_tallies i ns ++ tally_line (i + length ns) n
 tallies-push i [] n = append-nil (tally_line i n) ∙ ap (λ k. tally_line k n) (sym (add-zero i))
 tallies-push i (m ∷ ns) n =

@@ -25,24 +25,24 @@ lines_more b n (u ∷ ts) t =
 -- by whether a scan answers a number or a refusal
 by_answer : {X : Type 0} (r : Result ℕ Refusal) (x : X) (f : Refusal → X) → is_ok r ≡ true → elim r [ Ok k ↦ x | Err e ↦ f e ] ≡ x
 by_answer (Ok k) x f h = refl
-by_answer (Err e) x f h = absurd (let z : ◌≡◌ {A = ℕ} 0 1 = cc in omega arith)
+by_answer (Err e) x f h = cc
 
 -- a record that is no text
 accepted_other : (b : Book) (n at : ℕ) (e : Entry) (is : List Item) → is_text e ≡ false → accepted b n (item at e ∷ is) ≡ []
 accepted_other b n at (pattern p) is h = refl
 accepted_other b n at first is h = refl
 accepted_other b n at longest is h = refl
-accepted_other b n at (text t) is h = absurd (let z : ◌≡◌ {A = ℕ} 0 1 = cc in omega arith)
+accepted_other b n at (text t) is h = cc
 
 ended_other : (b : Book) (n at : ℕ) (e : Entry) (is : List Item) (s : Option Fault) → is_text e ≡ false → ended b n (item at e ∷ is) s ≡ Some (refused at AfterText)
 ended_other b n at (pattern p) is s h = refl
 ended_other b n at first is s h = refl
 ended_other b n at longest is s h = refl
-ended_other b n at (text t) is s h = absurd (let z : ◌≡◌ {A = ℕ} 0 1 = cc in omega arith)
+ended_other b n at (text t) is s h = cc
 
 -- what is refused stands within the job
 bad_within : (job : List ℕ) (at : ℕ) (r : Refusal) → step job at ≡ bad r → at ≤ length job
-bad_within job at r h = ⊎_elim (λ l. let e = step_over job at (omega arith) in absurd (let z : ◌≡◌ {A = ℕ} 0 1 = cc in omega arith)) (λ l. l) (cases_lt (length job) at)
+bad_within job at r h = ⊎_elim (λ l. let e = step_over job at (omega arith) in cc) (λ l. l) (cases_lt (length job) at)
 
 -- The loop over the texts of a job: ts are the texts accepted so far, and at is the place of the next record.
 module _ (job : List ℕ) (b : Book) (at : ℕ) (ts all : List (List ℕ)) (end : Option Fault) (so_far : ts ++ accepted b (length ts) (reading job at).items ≡ all) (left : ended b (length ts) (reading job at).items (reading job at).stop ≡ end) where

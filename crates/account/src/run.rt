@@ -24,12 +24,9 @@ fn tallies<F: Finder>(heap: Global, intake: &Intake<F>, count: usize) -> Result<
     requires { count ≡ count_of (model F.book intake.now).book }
     ensures { MatchResult result (λ v. (length v.items ≡ count) × ((i : ℕ) → i < count → slice_index v.items i ≡ slice_index (model F.book intake.now).tallies i)) (λ f. f.refusal ≡ Memory) }
 {
-    let mut tallies = Vec::new(heap);
-    for i in 0..count {
-        let tally = intake.tally(PatternID(SmallIndex(i as u32)))?;
-        tallies.push(tally)?;
-    }
-    Ok(tallies)
+    (0..count)
+        .map(|i| intake.tally(PatternID(SmallIndex(i as u32))))
+        .try_collect(heap)
 }
 
 /// Scans the texts with a searcher, and sums up.
@@ -43,7 +40,7 @@ fn sum_up<F: Finder + Drop>(
     ensures { Sums (F.book finder) (reading texts.entry.job.now texts.entry.at) lines.new.items result }
 {
     let count = finder.pattern_count();
-    let intake = scan_texts(heap, finder, texts, lines)?;
+    let intake = scan_texts(finder, texts, lines)?;
     let tallies = tallies(heap, &intake, count)?;
     Ok(Summary {
         texts: intake.count(),

@@ -10,7 +10,6 @@ use job::reader::Reader;
 use job::record::Record;
 use rules::fault::{Fault, Refusal};
 use rules::primitives::{Match, PatternID, SmallIndex};
-use std::alloc::Global;
 
 /// How many hits a text may have.
 pub(crate) const MAX_HITS: usize = 4096;
@@ -22,7 +21,7 @@ const BLANK: Match = Match {
     end: 0,
 };
 
-/// Notes the hits of a text, for which there is room.
+/// Notes the hits of a text, for which there is room. `extend` may fail, and the text is counted by now.
 fn note(lines: &mut Vec<Line>, text: u32, hits: &[Match])
     requires { vec_len lines.old + length hits.now ≤ vec_capacity lines.old }
     ensures { lines.new.items ≡ lines.old.items ++ map (line text) hits.now }
@@ -36,40 +35,34 @@ fn note(lines: &mut Vec<Line>, text: u32, hits: &[Match])
 pub(crate) fn scan_text<F: Finder>(
     intake: &mut Intake<F>,
     lines: &mut Vec<Line>,
-    hits: &mut [Match],
+    hits: &mut [Match; MAX_HITS],
     place: usize,
     text: &[u8],
 ) -> Result<(), Fault>
-    requires { length hits.old ≡ 4096 }
     ensures { Noted (model F.book intake.old) lines.old.items place text.now result lines.new.items (model F.book intake.new) }
 {
     lines.try_reserve(MAX_HITS)?;
     let number = intake.count();
-    let n = intake.scan_at(place, text, hits)?;
+    let n = intake.scan_at(place, text, hits.as_mut_slice())?;
     note(lines, number, &hits[0..n]);
     Ok(())
 }
 
 /// Scans the texts that are left to read with a new intake over a searcher.
 pub(crate) fn scan_texts<F: Finder + Drop>(
-    heap: Global,
     finder: F,
-    texts: Reader<'_>,
+    mut texts: Reader<'_>,
     lines: &mut Vec<Line>,
 ) -> Result<Intake<F>, Fault>
     ensures { TextsServed (F.book finder) (reading texts.entry.job.now texts.entry.at) lines.old.items lines.new.items (modelled (model F.book) result) }
 {
     let mut intake = Intake::new(finder);
-    let mut hits = vec![in heap; BLANK; MAX_HITS]?;
-    let mut rest = texts;
-    while let Some(placed) = rest.next()? {
+    let mut hits = [BLANK; MAX_HITS];
+    while let Some(placed) = texts.next()? {
         let Record::Text(text) = placed.record else {
-            return Err(Fault {
-                refusal: Refusal::AfterText,
-                place: placed.place,
-            });
+            return Err(Refusal::AfterText.at(placed.place));
         };
-        scan_text(&mut intake, lines, hits.as_mut_slice(), placed.place, text)?;
+        scan_text(&mut intake, lines, &mut hits, placed.place, text)?;
     }
     Ok(intake)
 }

@@ -1,10 +1,9 @@
 -- One event more of an intake.
-use Rattle.std.proofs.Common.{◌≡◌, ℕ, cond, ltb, List, [], ◌∷◌, ◌++◌, length, get_or, is_ok, Ok, Err, Result, sym, refl, ap, ◌∙◌, subst, ⊎_elim, MatchResult}
-use Rattle.std.proofs.lemmas.Bool.{cond-false, le-ltb, cases_lt}
+use Rattle.std.proofs.Common.{◌≡◌, ℕ, cond, List, [], ◌∷◌, ◌++◌, length, is_ok, Ok, Err, Result, sym, refl, ap, ◌∙◌, subst, MatchResult, arith}
+use Rattle.std.proofs.lemmas.Bool.Decides.{nat_tests}
 use Rattle.rules.specs.declared.primitives.Match.{Match}
 use Rattle.rules.specs.declared.fault.Fault.{Fault}
 use Rattle.rules.specs.declared.fault.Refusal.{Refusal}
-use Rattle.rules.specs.declared.fault.Refusal.TheVariants.{UnknownPattern}
 use Rattle.rules.specs.Book.{Book, Within, count_of}
 use Rattle.rules.specs.Listing.{Covers}
 use Rattle.rules.specs.Faults.{placed, numbered, told}
@@ -12,9 +11,6 @@ use Rattle.rules.specs.Ledger.{State, starts, used, accepts, scan_answer, scan_o
 use Rattle.rules.specs.History.{Event, after, Past, opened, then, state, Covered, ToldSo, Model, used_by, tally_in, Counted, Keeps, Served}
 use Rattle.rules.proofs.Listings.{listing_covers}
 use Rattle.rules.proofs.Enters.{entered}
-use Rattle.finder.specs.declared.finder.Finder.{Ghosts}
-use Rattle.intake.specs.declared.intake.Intake.{Intake}
-use Rattle.intake.specs.Intakes.{model, Serves, Scans}
 use Rattle.intake.proofs.Scans.{accepted, hits_front, told_placed, hits_placed, keeps_more}
 
 after_push : (s : State) (es : List Event) (e : Event) → after s (es ++ e ∷ []) ≡ adds (after s es) e.asked
@@ -62,28 +58,8 @@ served_scan p at t hs hs' r m m' w answer hits done s =
 
 -- what an intake answers for a tally is the ledger's
 tally_is : (s : State) (m : Model) (i : ℕ) → Keeps s m → tally_in m i ≡ tally_answer s i
-tally_is s m i k = ap (λ b. cond (ltb i (count_of b)) (Ok (get_or m.tallies i 0)) (Err UnknownPattern)) k.book ∙ ⊎_elim
-    (λ l. ap (λ x. cond (ltb i (count_of s.book)) (Ok x) (Err UnknownPattern)) (k.tallies i l))
-    (λ l. cond-false _ _ _ (le-ltb i (count_of s.book) l) ∙ sym (cond-false _ _ _ (le-ltb i (count_of s.book) l)))
-    (cases_lt i (count_of s.book))
+tally_is s m i k = let h = k.tallies i in let same = ap count_of k.book in grind (arith, nat_tests)
 
 pub served_tally : (p : Past) (at i : ℕ) (r : Result ℕ Fault) (m : Model) → r ≡ placed at (tally_in m i) → Served p m → Served (then p (ask_tally i) (told_tally (told r))) m
 served_tally p at i r m answer s =
     served-push p (ask_tally i) (told_tally (told r)) m m s (ap told_tally (ap told answer ∙ told_placed at _ ∙ ap numbered (tally_is (state p) m i s.keeps))) tt s.keeps
-
--- a scan of an intake
-pub serves_scan : {F : Type 0} {g : Ghosts F} (book : F → Book) (p : Past) (x : Intake F g) (at : ℕ) (t : List ℕ) (hs : List Match) (r : Result ℕ Fault) (hs' : List Match) (x' : Intake F g) → Within (book x.finder) → Scans book x at t hs r hs' x' → Serves book p x → Serves book (then p (ask_scan t hs) (told_scan (told r) hs')) x'
-serves_scan book p x at t hs r hs' x' w d s = served_scan p at t hs hs' r (model book x) (model book x') w d.answer d.hits (done r d.after) s
-  where
-    done : (r : Result ℕ Fault) → MatchResult r (λ _. Counted (model book x) t (model book x')) (λ _. x' ≡ x) → MatchResult r (λ _. Counted (model book x) t (model book x')) (λ _. model book x' ≡ model book x)
-    done (Ok n) c = c
-    done (Err f) e = ap (model book) e
-
--- a refusal alters nothing
-pub scan_refused : {F : Type 0} {g : Ghosts F} (book : F → Book) (x : Intake F g) (at : ℕ) (t : List ℕ) (hs : List Match) (r : Result ℕ Fault) (f : Fault) → r ≡ Err f → r ≡ placed at (scan_answer (book x.finder) (used_by (model book x)) t (length hs)) → Scans book x at t hs r hs x
-scan_refused book x at t hs r f e answer = record {
-  finder = refl;
-  answer = answer;
-  hits = sym (ap (hits_after (book x.finder) t hs) e);
-  after = subst (λ y. MatchResult y (λ _. Counted (model book x) t (model book x)) (λ _. x ≡ x)) (sym e) refl;
-}

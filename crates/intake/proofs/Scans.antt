@@ -1,13 +1,12 @@
 -- One scan, and the ledger's texts.
-use Rattle.std.proofs.Common.{◌≡◌, ℕ, ◌+◌, ◌<◌, ◌≤◌, ltb, leb, List, length, get_or, take, drop, replicate, Ok, Err, Result, sym, refl, ap, ◌∙◌, subst, ⊎_elim, arith}
-use Rattle.std.specs.List.{AllByRecursion}
-use Rattle.std.proofs.ByRecursion.{All-weaker}
-use Rattle.std.proofs.lemmas.List.{take_at, length_push, get_or-replicate, get_or_past}
+use Rattle.std.proofs.Common.{◌≡◌, ℕ, ◌+◌, ◌<◌, ◌≤◌, List, All, length, get_or, take, drop, replicate, Ok, Err, Result, sym, refl, ap, ◌∙◌, subst, arith}
+use Rattle.std.proofs.lemmas.List.{take_at, length_push}
+use Rattle.std.proofs.lemmas.List.Elements.{All-from_recursion}
 use Rattle.std.proofs.lemmas.List.Sums.{sum_by_push}
-use Rattle.std.proofs.lemmas.Bool.{cond_both, cases_lt, ltb-false, leb-false}
+use Rattle.std.proofs.lemmas.Bool.Decides.{nat_tests}
+use Rattle.std.proofs.lemmas.Grind.{common_steps}
 use Rattle.rules.specs.declared.primitives.Match.{Match}
 use Rattle.rules.specs.declared.fault.Refusal.{Refusal}
-use Rattle.rules.specs.declared.fault.Refusal.TheVariants.{TextTooLong, TooManyTexts, HitsTooShort}
 use Rattle.rules.specs.Book.{Book, Within, count_of}
 use Rattle.rules.specs.Search.{id_of, Occurs}
 use Rattle.rules.specs.Listing.{listing}
@@ -16,17 +15,11 @@ use Rattle.rules.specs.Ledger.{State, starts, accepts, hits_with, hits_of, scan_
 use Rattle.rules.specs.History.{Model, Counted, Keeps}
 use Rattle.rules.proofs.Listings.{listing_covers}
 
--- what `hits_of` is at the making, and once one more text is accepted
-pub hits_of_none : (b : Book) (i : ℕ) → hits_of (starts b) i ≡ 0
-hits_of_none b i = refl
-
+-- what `hits_of` is once one more text is accepted
 pub hits_of_more : (s : State) (t : List ℕ) (i : ℕ) → hits_of (accepts s t) i ≡ hits_of s i + hits_with i (listing s.book t)
 hits_of_more s t i = sum_by_push (λ u. hits_with i (listing s.book u)) s.texts t
 
--- what `hits_after` is after a refusal and otherwise
-pub hits_refused : (b : Book) (t : List ℕ) (hs : List Match) (k : Refusal) → hits_after {X = ℕ} b t hs (Err k) ≡ hs
-hits_refused b t hs k = refl
-
+-- what `hits_after` begins with
 pub hits_front : (b : Book) (t : List ℕ) (hs hs' : List Match) (n : ℕ) → n ≡ length (listing b t) → hs' ≡ hits_after {E = Refusal} b t hs (Ok n) → take n hs' ≡ listing b t
 hits_front b t hs hs' n l e = ap (take n) e ∙ take_at (listing b t) (drop (length (listing b t)) hs) n (sym l)
 
@@ -39,12 +32,6 @@ pub hits_placed : (at : ℕ) (b : Book) (t : List ℕ) (hs : List Match) (r : Re
 hits_placed at b t hs (Ok x) = refl
 hits_placed at b t hs (Err k) = refl
 
-ok_err : (k : ℕ) (e : Refusal) → ◌≡◌ {A = Result ℕ Refusal} (Ok k) (Err e) → ⊥
-ok_err k e p = let z : ◌≡◌ {A = ℕ} 0 1 = cc in omega arith
-
-ok_ok : (k n : ℕ) → ◌≡◌ {A = Result ℕ Refusal} (Ok k) (Ok n) → k ≡ n
-ok_ok k n p = cc
-
 -- what is known of a scan that is accepted
 pub record Accepted (b : Book) (n : ℕ) (t : List ℕ) (room k : ℕ) : Type 0 where
   pub hits : k ≡ length (listing b t)
@@ -53,28 +40,26 @@ pub record Accepted (b : Book) (n : ℕ) (t : List ℕ) (room k : ℕ) : Type 0 
   pub fits : length (listing b t) ≤ room
 
 pub accepted : (b : Book) (n : ℕ) (t : List ℕ) (room k : ℕ) → Ok k ≡ scan_answer b n t room → Accepted b n t room k
-accepted b n t room k =
-    let P : Result ℕ Refusal → Type 0 = λ x. Ok k ≡ x → Accepted b n t room k in
-    cond_both (ltb 65536 (length t)) _ _ P (λ _ e. absurd (ok_err k TextTooLong e)) (λ short.
-    cond_both (leb 65535 n) _ _ P (λ _ e. absurd (ok_err k TooManyTexts e)) (λ few.
-    cond_both (ltb room (length (listing b t))) _ _ P (λ _ e. absurd (ok_err k HitsTooShort e)) (λ fits e.
-    record { hits = ok_ok k (length (listing b t)) e; short = ltb-false 65536 (length t) short; few = leb-false 65535 n few; fits = ltb-false room (length (listing b t)) fits })))
-
-placed_ok : (at k : ℕ) (r : Result ℕ Refusal) → Ok k ≡ placed at r → Ok k ≡ r
-placed_ok at k (Ok x) e = ap Ok (let s : k ≡ x = cc in s)
-placed_ok at k (Err f) e = absurd (let z : ◌≡◌ {A = ℕ} 0 1 = cc in omega arith)
+accepted b n t room k h = record { hits = grind (arith, nat_tests); short = grind (arith, nat_tests); few = grind (arith, nat_tests); fits = grind (arith, nat_tests) }
 
 pub accepted_at : (at : ℕ) (b : Book) (n : ℕ) (t : List ℕ) (room k : ℕ) → Ok k ≡ placed at (scan_answer b n t room) → Accepted b n t room k
 accepted_at at b n t room k e = accepted b n t room k (placed_ok at k (scan_answer b n t room) e)
+  where
+    placed_ok : (at k : ℕ) (r : Result ℕ Refusal) → Ok k ≡ placed at r → Ok k ≡ r
+    placed_ok at k (Ok x) e = cc
+    placed_ok at k (Err f) e = cc
 
-pub listing_ids : (b : Book) (t : List ℕ) → Within b → AllByRecursion (λ m. id_of m < 1024) (listing b t)
-listing_ids b t w = All-weaker (Occurs b t) (λ m. id_of m < 1024) (λ m h. omega (arith, h.here.known, w.few)) (listing b t) (listing_covers b w t).occur
+pub listing_ids : (b : Book) (t : List ℕ) → Within b → All (λ m. id_of m < 1024) (listing b t)
+listing_ids b t w k d l = let h = All-from_recursion (Occurs b t) (listing b t) (listing_covers b w t).occur k d l in omega (arith, h.here.known, w.few)
+
+zero_at : (n i : ℕ) → ◌≡◌ {A = ℕ} (get_or (replicate n 0) i 0) 0
+zero_at n i = grind (arith, common_steps)
 
 pub keeps_none : (b : Book) (m : Model) → m.book ≡ b → m.accepted ≡ 0 → m.tallies ≡ replicate 1024 0 → Keeps (starts b) m
 keeps_none b m same none zeros = record {
   book = same;
   count = none;
-  tallies = λ i l. ap (λ xs. get_or xs i 0) zeros ∙ ⊎_elim (λ q. get_or-replicate 1024 i 0 0 q) (λ q. get_or_past (replicate 1024 0) i 0 q) (cases_lt i 1024);
+  tallies = λ i l. ap (λ xs. get_or xs i 0) zeros ∙ zero_at 1024 i;
 }
 
 pub keeps_more : (s : State) (m m' : Model) (t : List ℕ) → Counted m t m' → Keeps s m → Keeps (accepts s t) m'

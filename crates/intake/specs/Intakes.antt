@@ -1,5 +1,6 @@
 -- model book x                     what the intake x holds, over what its searcher means
 -- Serves book p x                  what is true of the intake x after the past p
+-- ServesCall book x a t x'         a call a made x to x' and told t: whatever past x has served, x' has served it and then that call
 -- Scans book x at t hs r hs' x'    a scan of t into the list hs answered r, faults at the place at: hs became hs' and x became x'
 use Rattle.std.specs.Prelude.{◌≡◌, ℕ, List, length, Result, MatchResult}
 use Rattle.rules.specs.declared.primitives.Match.{Match}
@@ -7,8 +8,8 @@ use Rattle.rules.specs.declared.fault.Fault.{Fault}
 use Rattle.rules.specs.Book.{Book}
 use Rattle.finder.specs.declared.finder.Finder.{Ghosts}
 use Rattle.rules.specs.Faults.{placed}
-use Rattle.rules.specs.Ledger.{scan_answer, hits_after}
-use Rattle.rules.specs.History.{Past, Model, used_by, Counted, Served}
+use Rattle.rules.specs.Ledger.{scan_answer, hits_after, Asked, Told}
+use Rattle.rules.specs.History.{Past, then, Model, used_by, Counted, Served}
 use Rattle.intake.specs.declared.intake.Intake.{Intake}
 use Rattle.intake.specs.Tallies.{tallies}
 
@@ -17,6 +18,9 @@ model book x = record { book = book x.finder; accepted = x.accepted; tallies = t
 
 abbrev pub Serves : {F : Type 0} {g : Ghosts F} → (F → Book) → Past → Intake F g → Type 0
 Serves book p x = Served p (model book x)
+
+abbrev pub ServesCall : {F : Type 0} {g : Ghosts F} → (F → Book) → Intake F g → Asked → Told → Intake F g → Type 0
+ServesCall book x a t x' = (p : Past) → Serves book p x → Serves book (then p a t) x'
 
 -- the answer is the first refusal that is due or the number of hits; a refusal alters nothing
 pub record Scans {F : Type 0} {g : Ghosts F} (book : F → Book) (x : Intake F g) (at : ℕ) (t : List ℕ) (hs : List Match) (r : Result ℕ Fault) (hs' : List Match) (x' : Intake F g) : Type 0 where

@@ -1,9 +1,8 @@
-ghost use Rattle.std.specs.Prelude.{◌≡◌, map, vec_len, MatchResult};
-ghost use Rattle.std.specs.List.{AllByRecursion};
+ghost use Rattle.std.specs.Prelude.{◌≡◌, map, vec_len, All, MatchResult};
 ghost use Rattle.rules.specs.Ledger.{ask_scan, ask_tally};
-ghost use Rattle.rules.specs.History.{Past, opened, then};
+ghost use Rattle.rules.specs.History.{Past, opened};
 ghost use Rattle.intake.specs.Calls.{asks, tell, pairs, following, Outside};
-ghost use Rattle.intake.specs.Intakes.{Serves};
+ghost use Rattle.intake.specs.Intakes.{Serves, ServesCall};
 
 use crate::intake::Intake;
 use finder::finder::Finder;
@@ -33,7 +32,7 @@ pub enum Reply {
 fn scan_into<F: Finder>(intake: &mut Intake<F>, text: &[u8], mut hits: Vec<Match>) -> Reply
     ensures finder { intake.new.finder ≡ intake.old.finder }
     ensures outside { Outside result }
-    ensures served { (p : Past) → Serves F.book p intake.old → Serves F.book (then p (ask_scan text.now hits.items) (tell result)) intake.new }
+    ensures served { ServesCall F.book intake.old (ask_scan text.now hits.items) (tell result) intake.new }
 {
     let answer = intake.scan(text, hits.as_mut_slice());
     Reply::Scanned(answer, hits)
@@ -42,7 +41,7 @@ fn scan_into<F: Finder>(intake: &mut Intake<F>, text: &[u8], mut hits: Vec<Match
 // Asks for a tally.
 fn tally_of<F: Finder>(intake: &Intake<F>, id: PatternID) -> Reply
     ensures outside { Outside result }
-    ensures served { (p : Past) → Serves F.book p intake.now → Serves F.book (then p (ask_tally id.0.0) (tell result)) intake.now }
+    ensures served { ServesCall F.book intake.now (ask_tally id.0.0) (tell result) intake.now }
 {
     Reply::Tallied(intake.tally(id))
 }
@@ -51,7 +50,7 @@ fn tally_of<F: Finder>(intake: &Intake<F>, id: PatternID) -> Reply
 pub fn serve<F: Finder>(intake: &mut Intake<F>, call: Call<'_>) -> Reply
     ensures finder { intake.new.finder ≡ intake.old.finder }
     ensures outside { Outside result }
-    ensures served { (p : Past) → Serves F.book p intake.old → Serves F.book (then p (asks call.entry) (tell result)) intake.new }
+    ensures served { ServesCall F.book intake.old (asks call.entry) (tell result) intake.new }
 {
     match call {
         Call::Scan { text, hits } => scan_into(intake, text, hits),
@@ -66,18 +65,15 @@ pub fn serve_all<'a, F: Finder>(
     calls: Vec<Call<'a>>,
 ) -> Result<Vec<Reply>, Vec<Call<'a>>>
     ensures finder { intake.new.finder ≡ intake.old.finder }
-    ensures replies { MatchResult result (λ replies. (vec_len replies ≡ vec_len calls.entry) × AllByRecursion Outside replies.items) (λ back. back.items ≡ calls.entry.items) }
+    ensures replies { MatchResult result (λ replies. (vec_len replies ≡ vec_len calls.entry) × All Outside replies.items) (λ back. back.items ≡ calls.entry.items) }
     ensures served { MatchResult result (λ replies. (p : Past) → Serves F.book p intake.old → Serves F.book (following p (pairs (map asks calls.entry.items) (map tell replies.items))) intake.new) (λ _. intake.new ≡ intake.old) }
 {
-    let mut replies = match Vec::with_capacity(heap, calls.len()) {
-        Ok(replies) => replies,
-        Err(_) => return Err(calls),
+    let Ok(mut replies) = Vec::with_capacity(heap, calls.len()) else {
+        return Err(calls);
     };
-    let mut rest = calls.into_iter();
-    while let Some(call) = rest.next() {
+    for call in calls {
         replies.push_reserved(serve(intake, call));
     }
-    rest.destroy_empty();
     Ok(replies)
 }
 
@@ -102,7 +98,7 @@ pub fn make_and_serve<'a, F: Finder>(
     calls: Vec<Call<'a>>,
 ) -> Result<Run<F>, Unserved<'a, F>>
     ensures finder { MatchResult result (λ x. x.intake.finder ≡ finder) (λ x. x.intake.finder ≡ finder) }
-    ensures replies { MatchResult result (λ x. (vec_len x.replies ≡ vec_len calls.entry) × AllByRecursion Outside x.replies.items) (λ x. x.calls.items ≡ calls.entry.items) }
+    ensures replies { MatchResult result (λ x. (vec_len x.replies ≡ vec_len calls.entry) × All Outside x.replies.items) (λ x. x.calls.items ≡ calls.entry.items) }
     ensures served { MatchResult result (λ x. Serves F.book (following (opened (F.book finder)) (pairs (map asks calls.entry.items) (map tell x.replies.items))) x.intake) (λ x. Serves F.book (opened (F.book finder)) x.intake) }
 {
     let mut intake = Intake::new(finder);

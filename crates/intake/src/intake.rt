@@ -19,7 +19,6 @@ pub struct Intake<F: Finder> {
     finder: F,
     table: Table,
     accepted: u32,
-    ghost sized: { length (tallies table) ≡ 1024 },
     ghost few: { accepted ≤ 65535 },
     ghost room: { sum (tallies table) ≤ 65536 * accepted },
 }

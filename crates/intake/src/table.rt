@@ -1,5 +1,4 @@
-ghost use Rattle.std.specs.Prelude.{◌≡◌, ℕ, ◌+◌, ◌^◌, ◌<◌, ◌≤◌, length, replicate, slice_index, slice_set};
-ghost use Rattle.std.specs.List.{AllByRecursion};
+ghost use Rattle.std.specs.Prelude.{◌≡◌, ℕ, ◌+◌, ◌^◌, ◌<◌, ◌≤◌, length, replicate, All, slice_index, slice_set};
 ghost use Rattle.rules.specs.Search.{id_of};
 ghost use Rattle.rules.specs.Ledger.{hits_with};
 ghost use Rattle.intake.specs.Tallies.{tallies, sum};
@@ -41,6 +40,7 @@ impl Table {
     }
 
     // The tally of a pattern.
+    #[tactic(auto, using(crate::proofs::Raises::tally_at))]
     pub(crate) fn get(&self, id: PatternID) -> u32
         requires { id.0.0 < 1024 }
         ensures { result ≡ slice_index (tallies self.now) id.0.0 }
@@ -48,11 +48,13 @@ impl Table {
         self.records[id.as_usize()].hits
     }
 
-    // Lends the record of a pattern, and raises it.
+    // Lends the record of a pattern, and raises it. A method that only lends it gets no proof: it is an element of an array.
+    #[tactic(auto, using(crate::proofs::Raises::tally_at, crate::proofs::Raises::tallies_set))]
     fn raise(&mut self, id: PatternID)
         requires known { id.0.0 < 1024 }
         requires room { slice_index (tallies self.old) id.0.0 + 1 < 2 ^ 32 }
-        ensures { tallies self.new ≡ slice_set (tallies self.old) id.0.0 (slice_index (tallies self.old) id.0.0 + 1) }
+        ensures len { length (tallies self.old) ≡ 1024 }
+        ensures set { tallies self.new ≡ slice_set (tallies self.old) id.0.0 (slice_index (tallies self.old) id.0.0 + 1) }
     {
         let record = &mut self.records[id.as_usize()];
         record.raise();
@@ -60,10 +62,8 @@ impl Table {
 
     // Raises the tally of each hit.
     pub(crate) fn raise_all(&mut self, hits: &[Match])
-        requires sized { length (tallies self.old) ≡ 1024 }
-        requires known { AllByRecursion (λ m. id_of m < 1024) hits.now }
+        requires known { All (λ m. id_of m < 1024) hits.now }
         requires room { sum (tallies self.old) + length hits.now < 2 ^ 32 }
-        ensures len { length (tallies self.new) ≡ 1024 }
         ensures total { sum (tallies self.new) ≡ sum (tallies self.old) + length hits.now }
         ensures raised { (k : ℕ) → slice_index (tallies self.new) k ≡ slice_index (tallies self.old) k + hits_with k hits.now }
     {

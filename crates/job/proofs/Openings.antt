@@ -20,13 +20,13 @@ pub opening_step : (b : Book) (at : ℕ) (e : Entry) (r : Reading) (n : ℕ) →
 opening_step b at (pattern p) r n other = after_both (takes b at (pattern p)) (λ c. fill c (heading r.items)) (λ c. closed_at c (texts_from r.items) r.stop n)
 opening_step b at first r n other = refl
 opening_step b at longest r n other = refl
-opening_step b at (text t) r n other = absurd (let z : ◌≡◌ {A = ℕ} 0 1 = cc in omega arith)
+opening_step b at (text t) r n other = cc
 
 pub texts_step : (at : ℕ) (e : Entry) (r : Reading) → is_text e ≡ false → texts (put (item at e) r) ≡ texts r
 texts_step at (pattern p) r other = refl
 texts_step at first r other = refl
 texts_step at longest r other = refl
-texts_step at (text t) r other = absurd (let z : ◌≡◌ {A = ℕ} 0 1 = cc in omega arith)
+texts_step at (text t) r other = cc
 
 -- a fault of the record is the job's
 pub refuses_step : (b : Book) (at : ℕ) (e : Entry) (r : Reading) (n : ℕ) (f : Fault) → is_text e ≡ false → Refuses (takes b at e) f → Refuses (opening b (put (item at e) r) n) f

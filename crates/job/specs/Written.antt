@@ -5,8 +5,7 @@
 -- job_of es       the job of the records es
 -- items_of at es  the records es, where the first one's mark stands at a place
 -- ReadsBack       a job that is records in a row, each of at most 65,535 bytes, reads as those records, with their places, up to its end
-use Rattle.std.specs.Prelude.{◌≡◌, ℕ, ◌+◌, ◌/◌, ◌%◌, ◌<◌, List, [], ◌∷◌, ◌++◌, length, None, codes}
-use Rattle.std.specs.List.{AllByRecursion}
+use Rattle.std.specs.Prelude.{◌≡◌, ℕ, ◌+◌, ◌/◌, ◌%◌, ◌<◌, List, [], ◌∷◌, ◌++◌, All, length, None, codes}
 use Rattle.job.specs.Format.{Entry, pattern, first, longest, text}
 use Rattle.job.specs.Records.{Item, item, reading}
 
@@ -34,4 +33,4 @@ items_of at [] = []
 items_of at (e ∷ es) = item at e ∷ items_of (at + 4 + length (body e)) es
 
 abbrev pub ReadsBack : Type 0
-ReadsBack = (es : List Entry) → AllByRecursion (λ e. length (body e) < 65536) es → reading (job_of es) 0 ≡ record { items = items_of 0 es; stop = None }
+ReadsBack = (es : List Entry) → All (λ e. length (body e) < 65536) es → reading (job_of es) 0 ≡ record { items = items_of 0 es; stop = None }

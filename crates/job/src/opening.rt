@@ -72,14 +72,10 @@ pub fn open<'a>(heap: Global, job: &'a [u8]) -> Result<Opened<'a>, Fault>
     ensures { MatchResult result (λ o. (opened job.now ≡ Ok (book_of o.book)) × (o.texts.job.now ≡ job.now) × (reading job.now o.texts.at ≡ texts (reading job.now 0))) (Refuses (opened job.now)) }
 {
     if job.len() > MAX_JOB {
-        return Err(Fault {
-            refusal: Refusal::JobTooLong,
-            place: 0,
-        });
+        return Err(Refusal::JobTooLong.at(0));
     }
     let filled = fill(heap, job)?;
-    let at = filled.at;
-    let patterns = filled.patterns;
+    let Filled { patterns, at } = filled;
     patterns.check_at(at, patterns.minimum_len().min(4))?;
     Ok(Opened {
         book: patterns.close(),

@@ -26,28 +26,25 @@ impl<'a> Reader<'a> {
         ensures place { placed result self.old.at ≡ self.old.at }
         ensures job { self.new.job.now ≡ self.old.job.now }
     {
-        let job = self.job;
         let at = self.at;
-        if job.len() <= at {
+        if self.job.len() <= at {
             return Ok(None);
         }
-        let truncated = Fault {
-            refusal: Refusal::Truncated,
-            place: at,
+        let truncated = Refusal::Truncated.at(at);
+        let [x, y, low, high, rest @ ..] = &self.job[at..] else {
+            return Err(truncated);
         };
-        if job.len() - at < 4 {
+        let size = usize::from(u16::from_le_bytes([*low, *high]));
+        let Some(body) = rest.get(..size) else {
             return Err(truncated);
-        }
-        let size = job[at + 2] as usize + 256 * job[at + 3] as usize;
-        if job.len() - at - 4 < size {
-            return Err(truncated);
-        }
-        match record_of(job[at], job[at + 1], &job[at + 4..at + 4 + size]) {
+        };
+        // By `map_err` and `?` the proof of the fault stays open.
+        match record_of(*x, *y, body) {
             Ok(record) => {
                 self.at = at + 4 + size;
                 Ok(Some(Placed { record, place: at }))
             }
-            Err(refusal) => Err(Fault { refusal, place: at }),
+            Err(refusal) => Err(refusal.at(at)),
         }
     }
 }

@@ -1,8 +1,8 @@
 ghost use Rattle.std.specs.Prelude.{◌≡◌, length};
 ghost use Rattle.rules.specs.Faults.{placed, told};
 ghost use Rattle.rules.specs.Ledger.{ask_tally, told_tally};
-ghost use Rattle.rules.specs.History.{Past, opened, then, state, tally_in};
-ghost use Rattle.intake.specs.Intakes.{model, Serves};
+ghost use Rattle.rules.specs.History.{Past, opened, state, tally_in};
+ghost use Rattle.intake.specs.Intakes.{model, Serves, ServesCall};
 
 use crate::intake::Intake;
 use crate::table::Table;
@@ -23,25 +23,15 @@ impl<F: Finder> Intake<F> {
         }
     }
 
-    // The tally that the table has of a pattern of the book.
-    fn tally_of(&self, id: PatternID) -> Result<u32, Fault>
-        ensures { result ≡ placed 0 (tally_in (model F.book self.now) id.0.0) }
-    {
-        if id.as_usize() >= self.finder.pattern_count() {
-            return Err(Fault {
-                refusal: Refusal::UnknownPattern,
-                place: 0,
-            });
-        }
-        Ok(self.table.get(id))
-    }
-
     /// How often a pattern was hit in the texts accepted so far. An id that the book lacks is refused.
     pub fn tally(&self, id: PatternID) -> Result<u32, Fault>
         ensures value { result ≡ placed 0 (tally_in (model F.book self.now) id.0.0) }
-        ensures served { (p : Past) → Serves F.book p self.now → Serves F.book (then p (ask_tally id.0.0) (told_tally (told result))) self.now }
+        ensures served { ServesCall F.book self.now (ask_tally id.0.0) (told_tally (told result)) self.now }
     {
-        self.tally_of(id)
+        if id.as_usize() >= self.finder.pattern_count() {
+            return Err(Refusal::UnknownPattern.at(0));
+        }
+        Ok(self.table.get(id))
     }
 
     /// How many texts were accepted.

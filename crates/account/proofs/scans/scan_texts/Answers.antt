@@ -22,25 +22,25 @@ use Rattle.account.proofs.scans.scan_texts.Goals.{In-Some, In-Text, After-next}
 book_is : (g : given.Over) (c : After-next g) → g.F.Finder.book c.new-intake.result.finder ≡ g.F.Finder.book c.args.finder
 book_is g c = ap g.F.Finder.book c.new-intake.ensures.finder
 
-stepped : (g : given.Over) (c : In-Some g) → step c.args.texts.job.now c.loop-hits.rest.at ≡ good (entry c.in-Some.placed.«record») c.next.new.self.at
-stepped g c = told_some c.args.texts.job.now _ c.loop-hits.rest.at c.next.new.self.at c.loop-hits.invariant.5 c.in_ok-placed.field-0 c.in-Some.placed c.in_ok-placed.ensures.step c.in-Some.is
+stepped : (g : given.Over) (c : In-Some g) → step c.args.texts.job.now c.loop-intake.texts.at ≡ good (entry c.in-Some.placed.«record») c.next.new.self.at
+stepped g c = told_some c.args.texts.job.now _ c.loop-intake.texts.at c.next.new.self.at c.loop-intake.invariant.5 c.in_ok-placed.field-0 c.in-Some.placed c.in_ok-placed.ensures.step c.in-Some.is
 
-there : (g : given.Over) (c : In-Some g) → c.in-Some.placed.place ≡ c.loop-hits.rest.at
-there g c = placed_some c.loop-hits.rest.at c.in_ok-placed.field-0 c.in-Some.placed c.in_ok-placed.ensures.place c.in-Some.is
+there : (g : given.Over) (c : In-Some g) → c.in-Some.placed.place ≡ c.loop-intake.texts.at
+there g c = placed_some c.loop-intake.texts.at c.in_ok-placed.field-0 c.in-Some.placed c.in_ok-placed.ensures.place c.in-Some.is
 
 -- the fault that ends the job, with the lines so far
-ends_with : (g : given.Over) (c : After-next g) (f : Fault) → let b = g.F.Finder.book c.new-intake.result.finder in let first = reading c.args.texts.job.now c.args.texts.at in (c.loop-hits.invariant.0 ≡ accepted b 0 first.items) × (ended b 0 first.items first.stop ≡ Some f) → TextsServed (g.F.Finder.book c.args.finder) first (vec_items c.args.lines.now) (vec_items c.loop-hits.lines) (Err f)
+ends_with : (g : given.Over) (c : After-next g) (f : Fault) → let b = g.F.Finder.book c.new-intake.result.finder in let first = reading c.args.texts.job.now c.args.texts.at in (c.loop-intake.invariant.0 ≡ accepted b 0 first.items) × (ended b 0 first.items first.stop ≡ Some f) → TextsServed (g.F.Finder.book c.args.finder) first (vec_items c.args.lines.now) (vec_items c.loop-intake.lines) (Err f)
 ends_with g c f h =
     let first = reading c.args.texts.job.now c.args.texts.at in
     let b = g.F.Finder.book c.new-intake.result.finder in
-    subst (λ x. TextsServed x first (vec_items c.args.lines.now) (vec_items c.loop-hits.lines) (Err f)) (book_is g c)
-    (inr (h.1, c.loop-hits.invariant.2 ∙ ap (λ ts. vec_items c.args.lines.now ++ lines_of b 0 ts) h.0))
+    subst (λ x. TextsServed x first (vec_items c.args.lines.now) (vec_items c.loop-intake.lines) (Err f)) (book_is g c)
+    (inr (h.1, c.loop-intake.invariant.2 ∙ ap (λ ts. vec_items c.args.lines.now ++ lines_of b 0 ts) h.0))
 
 pub returns-in_err-placed : goal.returns-in_err-placed
 returns-in_err-placed g c =
-    let p = err_from_is_err_and c.from_residual-in_err-placed.result c.from_residual-in_err-placed.ensures.1 in
-    let i = c.loop-hits.invariant in
-    let at = c.loop-hits.rest.at in
+    let p = err_from_is_err_and c.from_residual.result c.from_residual.ensures.1 in
+    let i = c.loop-intake.invariant in
+    let at = c.loop-intake.texts.at in
     let job = c.args.texts.job.now in
     let b = g.F.Finder.book c.new-intake.result.finder in
     let f = c.in_err-placed.field-0.0 in
@@ -50,48 +50,47 @@ returns-in_err-placed g c =
 
 pub returns-in_default-record : goal.returns-in_default-record
 returns-in_default-record g c =
-    let i = c.loop-hits.invariant in
-    let at = c.loop-hits.rest.at in
+    let i = c.loop-intake.invariant in
+    let at = c.loop-intake.texts.at in
     let job = c.args.texts.job.now in
     let b = g.F.Finder.book c.new-intake.result.finder in
     let a = (goal.at.returns-in_default-record g c).In-Some in
     let e = other_refused job b at i.0 _ _ i.3 i.4 (entry c.in-Some.placed.«record») c.next.new.self.at (stepped g a) (no_text c.in-Some.placed.«record» c.in_default-record.not-Text) in
-    ends_with g (goal.at.returns-in_default-record g c).After-next (refused c.in-Some.placed.place AfterText) (e.0, e.1 ∙ ap (λ n. Some (refused n AfterText)) (sym (there g a)))
+    ends_with g (goal.at.returns-in_default-record g c).After-next c.at.result (e.0, e.1 ∙ ap (λ n. Some (refused n AfterText)) (sym (there g a)) ∙ ap Some (sym c.at.ensures))
 
 -- the text that a turn scans
-texted : (g : given.Over) (c : In-Text g) → step c.args.texts.job.now c.loop-hits.rest.at ≡ good (text c.in-Text.text.now) c.next.new.self.at
+texted : (g : given.Over) (c : In-Text g) → step c.args.texts.job.now c.loop-intake.texts.at ≡ good (text c.in-Text.text.now) c.next.new.self.at
 texted g c = stepped g (goal.at.In-Text g c).In-Some ∙ ap (λ r. good (entry r) c.next.new.self.at) c.in-Text.is
 
-pub loop-hits-smaller : goal.loop-hits-smaller
-loop-hits-smaller g c =
-    let far = step_next c.args.texts.job.now c.loop-hits.rest.at c.next.new.self.at _ (texted g (goal.at.loop-hits-smaller g c).In-Text) in
-    omega (arith, far.0, far.1, ap length c.loop-hits.invariant.5, ap length c.next.ensures.job)
+pub loop-intake-smaller : goal.loop-intake-smaller
+loop-intake-smaller g c =
+    let far = step_next c.args.texts.job.now c.loop-intake.texts.at c.next.new.self.at _ (texted g (goal.at.loop-intake-smaller g c).In-Text) in
+    omega (arith, far.0, far.1, ap length c.loop-intake.invariant.5, ap length c.next.ensures.job)
 
-pub loop-hits-preserved : goal.loop-hits-preserved
-loop-hits-preserved g c =
-    let i = c.loop-hits.invariant in
-    let at = c.loop-hits.rest.at in
+pub loop-intake-preserved : goal.loop-intake-preserved
+loop-intake-preserved g c =
+    let i = c.loop-intake.invariant in
+    let at = c.loop-intake.texts.at in
     let job = c.args.texts.job.now in
     let b = g.F.Finder.book c.new-intake.result.finder in
     let t = c.in-Text.text.now in
-    let m = model g.F.Finder.book c.loop-hits.intake in
+    let m = model g.F.Finder.book c.loop-intake.intake in
     let noted = c.in_ok-scan_text.ensures in
     let ok : is_ok (scanned b (length i.0) t) ≡ true = sym (λ k. is_ok (scanned (i.1.book k) (i.1.count k) t)) ∙ noted.cases.0 in
-    let e = text_scanned job b at i.0 _ _ i.3 i.4 t c.next.new.self.at (texted g (goal.at.loop-hits-preserved g c).In-Text) ok in (
+    let e = text_scanned job b at i.0 _ _ i.3 i.4 t c.next.new.self.at (texted g (goal.at.loop-intake-preserved g c).In-Text) ok in (
       i.0 ++ t ∷ [],
       keeps_more (record { book = b; texts = i.0 }) m (model g.F.Finder.book c.scan_text.new.intake) t noted.cases.1 i.1,
       noted.cases.2 ∙ ap (λ xs. xs ++ map (line m.accepted) (listing m.book t)) i.2 ∙ append_assoc (vec_items c.args.lines.now) (lines_of b 0 i.0) (map (line m.accepted) (listing m.book t)) ∙ ap (λ xs. vec_items c.args.lines.now ++ xs) ((λ k. lines_of b 0 i.0 ++ map (line ((i.1.count ∙ sym (zero-add (length i.0))) k)) (listing (i.1.book k) t)) ∙ sym (lines_more b 0 i.0 t)),
       e.0,
       e.1,
       c.next.ensures.job ∙ i.5,
-      i.6,
     )
 
 pub returns-in_err-scan_text : goal.returns-in_err-scan_text
 returns-in_err-scan_text g c =
     let p = err_from_is_err_and c.from_residual-in_err-scan_text.result c.from_residual-in_err-scan_text.ensures.1 in
-    let i = c.loop-hits.invariant in
-    let at = c.loop-hits.rest.at in
+    let i = c.loop-intake.invariant in
+    let at = c.loop-intake.texts.at in
     let job = c.args.texts.job.now in
     let b = g.F.Finder.book c.new-intake.result.finder in
     let t = c.in-Text.text.now in
@@ -110,14 +109,14 @@ returns-in_err-scan_text g c =
 
 pub returns : goal.returns
 returns g c =
-    let i = c.loop-hits.invariant in
-    let at = c.loop-hits.rest.at in
+    let i = c.loop-intake.invariant in
+    let at = c.loop-intake.texts.at in
     let job = c.args.texts.job.now in
     let first = reading job c.args.texts.at in
     let b = g.F.Finder.book c.new-intake.result.finder in
     let e = all_scanned job b at i.0 _ _ i.3 i.4 (told_none job _ at c.next.new.self.at i.5 c.in_ok-placed.field-0 c.in_ok-placed.ensures.step c.in_default.is) in
-    subst (λ x. TextsServed x first (vec_items c.args.lines.now) (vec_items c.loop-hits.lines) (Ok (model g.F.Finder.book c.loop-hits.intake))) (book_is g (goal.at.returns g c).After-next) (
+    subst (λ x. TextsServed x first (vec_items c.args.lines.now) (vec_items c.loop-intake.lines) (Ok (model g.F.Finder.book c.loop-intake.intake))) (book_is g (goal.at.returns g c).After-next) (
       e.1,
-      subst (λ ts. Keeps (record { book = b; texts = ts }) (model g.F.Finder.book c.loop-hits.intake)) e.0 i.1,
+      subst (λ ts. Keeps (record { book = b; texts = ts }) (model g.F.Finder.book c.loop-intake.intake)) e.0 i.1,
       i.2 ∙ ap (λ ts. vec_items c.args.lines.now ++ lines_of b 0 ts) e.0,
     )

@@ -1,6 +1,5 @@
-use Rattle.std.proofs.Common.{◌≡◌, ◌≤◌, map, length, take, drop, vec_items, vec_len, vec_capacity}
+use Rattle.std.proofs.Common.{◌≡◌, ◌≤◌, ◌++◌, All, map, length, vec_items, vec_len, vec_capacity}
 use Rattle.std.specs.Vec.Iter.{into_iter_items}
-use Rattle.std.specs.List.{AllByRecursion}
 use Rattle.rules.specs.History.{Past}
 use Rattle.intake.specs.Calls.{asks, tell, pairs, following, Outside}
 use Rattle.intake.specs.Intakes.{Serves}
@@ -8,12 +7,13 @@ use Rattle.intake.proofs.calls.serve_all.Given as goal
 
 abbrev pub invariant-loop-call : goal.invariant-loop-call
 invariant-loop-call g l =
-    (l.intake.finder ≡ l.initial.intake.finder)
-    × (drop (vec_len l.replies) (into_iter_items l.initial.rest) ≡ into_iter_items l.rest)
-    × (vec_len l.replies ≤ length (into_iter_items l.initial.rest))
-    × (length (into_iter_items l.initial.rest) ≤ vec_capacity l.replies)
-    × AllByRecursion Outside (vec_items l.replies)
-    × ((p : Past) → Serves g.F.Finder.book p l.initial.intake → Serves g.F.Finder.book (following p (pairs (map asks (take (vec_len l.replies) (into_iter_items l.initial.rest))) (map tell (vec_items l.replies)))) l.intake)
-
-abbrev pub decreases-loop-call : goal.decreases-loop-call
-decreases-loop-call g l = length (into_iter_items l.rest)
+    record {
+      can_next : (goal.iterator-loop-call g).can_next l.call-iterator;
+      is_finite : (goal.iterator-loop-call g).is_finite l.call-iterator;
+      finder : l.intake.finder ≡ l.initial.intake.finder;
+      parts : l.yielded ++ into_iter_items l.call-iterator ≡ into_iter_items l.initial.call-iterator;
+      even : vec_len l.replies ≡ length l.yielded;
+      room : length (into_iter_items l.initial.call-iterator) ≤ vec_capacity l.replies;
+      outside : All Outside (vec_items l.replies);
+      served : (p : Past) → Serves g.F.Finder.book p l.initial.intake → Serves g.F.Finder.book (following p (pairs (map asks l.yielded) (map tell (vec_items l.replies)))) l.intake;
+    }
