@@ -16,8 +16,7 @@ use Rattle.host.specs.Outcomes.{text_in, leading, first_text, in_text, in_book, 
 
 -- a refusal is not past the end
 bad_within : (job : List ℕ) (at : ℕ) (r : Refusal) → step job at ≡ bad r → at ≤ length job
-bad_within job at r h =
-    grind (arith, nat_tests, common_steps)
+bad_within job at r h = grind (arith, nat_tests, common_steps)
 
 step_leads : (job : List ℕ) (at : ℕ) (s : Step) → step job at ≡ s → leading (reading job at).items ≡ text_in s
 step_leads job at over h = ap (λ r. leading r.items) (reading_over job at (step_end job at h))

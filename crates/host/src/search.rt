@@ -6,7 +6,7 @@ use crate::miss::Miss;
 use crate::searcher::Searcher;
 use job::opening::open;
 use job::reader::Reader;
-use job::record::{Placed, Record};
+use job::record::Record;
 use rules::fault::Refusal;
 use rules::primitives::Match;
 use std::alloc::Global;
@@ -15,15 +15,9 @@ use std::alloc::Global;
 fn first_text<'a>(mut texts: Reader<'a>) -> Option<&'a [u8]>
     ensures { MatchOption result (text_in (step texts.entry.job.now texts.entry.at) ≡ None) (λ t. text_in (step texts.entry.job.now texts.entry.at) ≡ Some t.now) }
 {
-    match texts.next() {
-        Ok(
-            Some(
-                Placed {
-                    record: Record::Text(text),
-                    ..
-                },
-            ),
-        ) => Some(text),
+    let placed = texts.next().ok()??;
+    match placed.record {
+        Record::Text(text) => Some(text),
         _ => None,
     }
 }

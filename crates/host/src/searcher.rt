@@ -14,7 +14,7 @@ use std::rc::Rc;
 use teddy::slim::Slim;
 use vector::single::Single;
 
-/// A kind of searcher; one with masks has their count.
+/// A kind of searcher; one with masks has their count. The C interface has numbers for these three.
 #[derive(Clone, Copy)]
 pub(crate) enum Searcher {
     Plain,
