@@ -3,56 +3,56 @@
 
 #![tactic(auto)]
 
+ghost use Rattle.std.specs.Prelude.{length};
+ghost use Rattle.std.specs.Iterator.{at_most};
+
 use host::find;
 use std::alloc::Global;
 use std::{fs, io};
 
-/// The bytes of an entry before its job.
-const HEAD: usize = 19;
-
 /// A call, the number that is answered, and the twelve bytes that are then in its buffer, which begins as zeros.
-#[derive(Drop)]
+#[derive(Clone, Copy)]
 struct Entry<'a> {
     job: &'a [u8],
     place: usize,
     searcher: u32,
     masks: usize,
     number: u32,
-    written: &'a [u8],
+    written: &'a [u8; 12],
 }
 
-/// A list, and the place of its next entry: a job's length and a place in two bytes each, low byte first, a searcher's number,
-/// a mask count and the number that is answered in one each, the twelve bytes, and the job.
+/// What is left of a list. An entry is a job's length and a place in two bytes each, low byte first, a searcher's number, a
+/// mask count and the number that is answered in one each, the twelve bytes, and the job.
 #[derive(Drop)]
 struct Entries<'a> {
-    bytes: &'a [u8],
-    at: usize,
+    rest: &'a [u8],
 }
 
-impl<'a> Entries<'a> {
+impl<'a> Iterator for Entries<'a> {
+    type Item = Entry<'a>;
+
+    ghost remaining = { λ entries. at_most (length entries.rest.now) };
+
     fn next(&mut self) -> Option<Entry<'a>> {
-        let bytes = self.bytes;
-        let at = self.at;
-        if bytes.len() <= at || bytes.len() - at < HEAD {
-            return None;
-        }
-        let size = bytes[at] as usize + 256 * bytes[at + 1] as usize;
-        if bytes.len() - at - HEAD < size {
-            return None;
-        }
-        self.at = at + HEAD + size;
+        let (head, rest) = self.rest.split_first_chunk::<7>()?;
+        let [a, b, c, d, searcher, masks, number] = *head;
+        let (written, rest) = rest.split_first_chunk::<12>()?;
+        let size = u16::from_le_bytes([a, b]);
+        let place = u16::from_le_bytes([c, d]);
+        let (job, rest) = rest.split_at_checked(usize::from(size))?;
+        self.rest = rest;
         Some(Entry {
-            job: &bytes[at + HEAD..at + HEAD + size],
-            place: bytes[at + 2] as usize + 256 * bytes[at + 3] as usize,
-            searcher: bytes[at + 4] as u32,
-            masks: bytes[at + 5] as usize,
-            number: bytes[at + 6] as u32,
-            written: &bytes[at + 7..at + HEAD],
+            job,
+            place: usize::from(place),
+            searcher: u32::from(searcher),
+            masks: usize::from(masks),
+            number: u32::from(number),
+            written,
         })
     }
 }
 
-fn agrees(heap: Global, entry: &Entry<'_>) -> bool {
+fn agrees(heap: Global, entry: Entry<'_>) -> bool {
     let mut out = [0; 12];
     let number = find(
         heap,
@@ -62,27 +62,19 @@ fn agrees(heap: Global, entry: &Entry<'_>) -> bool {
         entry.masks,
         &mut out,
     );
-    number == entry.number && &out[0..12] == entry.written
+    number == entry.number && out == *entry.written
 }
 
 fn main(rt: HostRuntime) -> io::Result<()> {
+    let heap = rt.alloc();
     let list = fs::read(&rt, "answers")?;
-    let mut entries = Entries {
-        bytes: list.as_slice(),
-        at: 0,
-    };
-    let mut same = 0usize;
-    let mut others = 0usize;
-    for _ in 0..list.len() {
-        let Some(entry) = entries.next() else {
-            break;
-        };
-        if agrees(rt.alloc(), &entry) {
-            same = same.saturating_add(1);
-        } else {
-            others = others.saturating_add(1);
-        }
-    }
-    let read = entries.at;
+    let mut entries = Entries { rest: &list };
+    let agree: Vec<bool> = entries
+        .by_ref()
+        .map(|entry| agrees(heap, entry))
+        .collect(heap)?;
+    let same = agree.iter().filter(|same| **same).count();
+    let others = agree.iter().filter(|same| !**same).count();
+    let read = list.len().saturating_sub(entries.rest.len());
     println!(rt; "{same} answers are the Rust's, {others} are not; {read} bytes read")
 }

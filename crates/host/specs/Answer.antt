@@ -1,5 +1,6 @@
 -- What a host is answered.
 -- called s c n            the searcher of a call with the number s, the mask count c and a buffer of n bytes, if the call is in order
+-- hit job place x         the hit, or else why there is none
 -- answer job place x      the hit, or else the number that is answered instead of it
 -- code d                  the number that the answer d has: 0 for a hit
 -- after d old             the bytes of the buffer then: those of the hit, else the old ones
@@ -7,28 +8,28 @@
 -- Replies x d r old new   the number r, and a buffer that held old and then new, are those of the answer d; a call in order may
 --                         also meet want of memory, which has the number 103 and writes nothing
 use Rattle.std.specs.Prelude.{◌≡◌, ℕ, true, cond, ◌⊎◌, List, is_some, Some, None, Ok, Err, Option, Result, ◌==◌}
-use Rattle.rules.specs.declared.fault.Refusal.{Refusal}
 use Rattle.rules.specs.declared.primitives.Match.{Match}
-use Rattle.rules.specs.Refusals.{number}
-use Rattle.host.specs.declared.search.Outcome.{Outcome}
-use Rattle.host.specs.declared.search.Outcome.TheVariants.{NoText, NoHit, Hit}
+use Rattle.host.specs.declared.miss.Miss.{Miss}
+use Rattle.host.specs.declared.miss.Miss.TheVariants.{Miscalled}
 use Rattle.host.specs.declared.searcher.Searcher.{Searcher}
 use Rattle.host.specs.Searchers.{searcher_of}
+use Rattle.host.specs.Misses.{number_of}
 use Rattle.host.specs.Outcomes.{outcome, Small}
 use Rattle.host.specs.Written.{written}
 
 abbrev pub called : ℕ → ℕ → ℕ → Option Searcher
 called s c n = cond (n == 12) (searcher_of s c) None
 
-abbrev pub replied : Result Outcome Refusal → Result Match ℕ
-replied (Ok NoText) = Err 102
-replied (Ok NoHit) = Err 100
-replied (Ok (Hit m)) = Ok m
-replied (Err r) = Err (number r)
+abbrev pub hit : List ℕ → ℕ → Option Searcher → Result Match Miss
+hit job place None = Err Miscalled
+hit job place (Some x) = outcome job place x
+
+abbrev pub numbered : Result Match Miss → Result Match ℕ
+numbered (Ok m) = Ok m
+numbered (Err e) = Err (number_of e)
 
 abbrev pub answer : List ℕ → ℕ → Option Searcher → Result Match ℕ
-answer job place None = Err 101
-answer job place (Some x) = replied (outcome job place x)
+answer job place x = numbered (hit job place x)
 
 abbrev pub code : Result Match ℕ → ℕ
 code (Ok m) = 0

@@ -1,4 +1,5 @@
 pub mod Written
 pub mod Searchers
+pub mod Misses
 pub mod Outcomes
 pub mod Answer

@@ -4,13 +4,11 @@
 -- first_text job         the first text of a job
 -- in_text b t place      what the search of a text comes to
 -- in_book d x t place    the same, where closing the book answered d and the searcher x is used
--- outcome job place x    what the search of a job's first text comes to, or else the first refusal up to that text
--- TurnedDown d e         the fault e has the refusal of the defined answer d, or is want of memory
+-- outcome job place x    the hit in a job's first text, or else why there is none: the first refusal up to that text goes first
+-- TurnedDown d e         e is that of the defined answer d, or want of memory
 -- Small m                the id, the start and the end of a match are those of a book and a text within the bounds
--- SmallHit r             that of the hit, if the search came to one
-use Rattle.std.specs.Prelude.{◌≡◌, ℕ, ◌<◌, ◌≤◌, cond, ◌⊎◌, List, [], ◌∷◌, Some, None, Ok, Err, Option, Result}
+use Rattle.std.specs.Prelude.{◌≡◌, ℕ, ◌<◌, ◌≤◌, cond, ◌⊎◌, List, [], ◌∷◌, Some, None, Ok, Err, Option, Result, ok_or}
 use Rattle.rules.specs.declared.fault.Fault.{Fault}
-use Rattle.rules.specs.declared.fault.Refusal.{Refusal}
 use Rattle.rules.specs.declared.fault.Refusal.TheVariants.{BadMaskCount, Memory}
 use Rattle.rules.specs.declared.primitives.Match.{Match}
 use Rattle.rules.specs.Book.{Book}
@@ -18,8 +16,8 @@ use Rattle.rules.specs.Search.{id_of, found}
 use Rattle.job.specs.Format.{Entry, pattern, first, longest, text, Step, over, bad, good}
 use Rattle.job.specs.Records.{Item, reading}
 use Rattle.job.specs.Opening.{texts, opened}
-use Rattle.host.specs.declared.search.Outcome.{Outcome}
-use Rattle.host.specs.declared.search.Outcome.TheVariants.{NoText, NoHit, Hit}
+use Rattle.host.specs.declared.miss.Miss.{Miss}
+use Rattle.host.specs.declared.miss.Miss.TheVariants.{Refused, NoText, NoHit}
 use Rattle.host.specs.declared.searcher.Searcher.{Searcher}
 use Rattle.host.specs.Searchers.{misfits}
 
@@ -41,30 +39,20 @@ leading (i ∷ is) = text_of i.entry
 abbrev pub first_text : List ℕ → Option (List ℕ)
 first_text job = leading (texts (reading job 0)).items
 
-abbrev pub hit_or_none : Option Match → Outcome
-hit_or_none None = NoHit
-hit_or_none (Some m) = Hit m
-
-abbrev pub in_text : Book → Option (List ℕ) → ℕ → Outcome
-in_text b None place = NoText
-in_text b (Some t) place = hit_or_none (found b t place)
+abbrev pub in_text : Book → Option (List ℕ) → ℕ → Result Match Miss
+in_text b None place = Err NoText
+in_text b (Some t) place = ok_or (found b t place) NoHit
 
 -- the mask count is checked when the book is closed, after all else
-abbrev pub in_book : Result Book Fault → Searcher → Option (List ℕ) → ℕ → Result Outcome Refusal
-in_book (Ok b) x t place = cond (misfits x b) (Err BadMaskCount) (Ok (in_text b t place))
-in_book (Err f) x t place = Err f.refusal
+abbrev pub in_book : Result Book Fault → Searcher → Option (List ℕ) → ℕ → Result Match Miss
+in_book (Ok b) x t place = cond (misfits x b) (Err (Refused BadMaskCount)) (in_text b t place)
+in_book (Err f) x t place = Err (Refused f.refusal)
 
-abbrev pub outcome : List ℕ → ℕ → Searcher → Result Outcome Refusal
+abbrev pub outcome : List ℕ → ℕ → Searcher → Result Match Miss
 outcome job place x = in_book (opened job) x (first_text job) place
 
-abbrev pub TurnedDown : Result Outcome Refusal → Fault → Type 0
-TurnedDown d e = (e.refusal ≡ Memory) ⊎ (d ≡ Err e.refusal)
+abbrev pub TurnedDown : Result Match Miss → Miss → Type 0
+TurnedDown d e = (e ≡ Refused Memory) ⊎ (d ≡ Err e)
 
 abbrev pub Small : Match → Type 0
 Small m = (id_of m < 1024) × (m.start ≤ 65536) × (m.end ≤ 65536)
-
-abbrev pub SmallHit : Result Outcome Fault → Type 0
-SmallHit (Ok NoText) = Unit {0}
-SmallHit (Ok NoHit) = Unit {0}
-SmallHit (Ok (Hit m)) = Small m
-SmallHit (Err e) = Unit {0}

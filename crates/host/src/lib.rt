@@ -2,32 +2,20 @@
 
 #![tactic(auto)]
 
-ghost use Rattle.std.specs.Prelude.{◌≡◌, length};
+ghost use Rattle.std.specs.Prelude.{◌≡◌, length, MatchResult};
 ghost use Rattle.host.specs.Answer.{called, answer, SmallAnswer, Replies};
+ghost use Rattle.host.specs.Misses.{number_of};
 
-use crate::search::{Outcome, search};
+use crate::miss::Miss;
+use crate::search::search;
 use crate::searcher::Searcher;
 use crate::written::written;
 use std::alloc::Global;
 
+mod miss;
 mod search;
 mod searcher;
 mod written;
-
-/// A hit was written.
-const HIT: u32 = 0;
-
-/// The text has no hit.
-const NO_HIT: u32 = 100;
-
-/// There is no searcher with that number, or the buffer has another length than twelve.
-const MISCALLED: u32 = 101;
-
-/// The job has no text.
-const NO_TEXT: u32 = 102;
-
-/// There is no memory.
-const NO_MEMORY: u32 = 103;
 
 /// Searches a job's first text from a place on, with the searcher that has a number (0 plain, 1 rolling hash, 2 masks over
 /// one array half) and, for 2, a mask count. It answers 0 with the hit in `out`: id, start and end, four bytes each, low byte
@@ -44,22 +32,27 @@ pub fn find(
     ensures answer { Replies (called searcher masks (length out.old)) (answer job.now place (called searcher masks (length out.old))) result out.old out.new }
     ensures small { result ≡ 0 → SmallAnswer (answer job.now place (called searcher masks (length out.old))) }
 {
+    match reply(heap, job, place, searcher, masks, out) {
+        Ok(()) => 0,
+        Err(miss) => miss.number(),
+    }
+}
+
+/// Writes the hit of a call.
+fn reply(
+    heap: Global,
+    job: &[u8],
+    place: usize,
+    searcher: u32,
+    masks: usize,
+    out: &mut [u8],
+) -> Result<(), Miss>
+    ensures { let x = called searcher masks (length out.old) in let d = answer job.now place x in MatchResult result (λ _. Replies x d 0 out.old out.new × SmallAnswer d) (λ e. Replies x d (number_of e) out.old out.new) }
+{
     if out.len() != 12 {
-        return MISCALLED;
+        return Err(Miss::Miscalled);
     }
-    let Some(chosen) = Searcher::new(searcher, masks) else {
-        return MISCALLED;
-    };
-    match search(heap, job, place, chosen) {
-        Err(fault) => match fault.refusal.number() {
-            0 => NO_MEMORY,
-            number => u32::from(number),
-        },
-        Ok(Outcome::NoText) => NO_TEXT,
-        Ok(Outcome::NoHit) => NO_HIT,
-        Ok(Outcome::Hit(hit)) => {
-            out.copy_from_slice(&written(hit));
-            HIT
-        }
-    }
+    let chosen = Searcher::new(searcher, masks).ok_or(Miss::Miscalled)?;
+    out.copy_from_slice(written(search(heap, job, place, chosen)?).as_flattened());
+    Ok(())
 }

@@ -1,35 +1,25 @@
-ghost use Rattle.std.specs.Prelude.{◌≡◌, Some, None, Ok, Err, MatchOption, MatchResult};
+ghost use Rattle.std.specs.Prelude.{◌≡◌, Some, None, Ok, Err, IfOk, MatchOption, MatchResult};
 ghost use Rattle.job.specs.Format.{step};
-ghost use Rattle.host.specs.Outcomes.{text_in, outcome, TurnedDown, SmallHit};
+ghost use Rattle.host.specs.Outcomes.{text_in, outcome, TurnedDown, Small};
 
+use crate::miss::Miss;
 use crate::searcher::Searcher;
 use job::opening::open;
 use job::reader::Reader;
 use job::record::Record;
-use rules::fault::{Fault, Refusal};
+use rules::fault::Refusal;
 use rules::primitives::Match;
 use std::alloc::Global;
 
-/// What the search of a job's first text comes to.
-#[derive(Clone, Copy)]
-pub(crate) enum Outcome {
-    NoText,
-    NoHit,
-    Hit(Match),
-}
-
 /// The text at which a reader stands.
-fn first_text<'a>(texts: Reader<'a>) -> Option<&'a [u8]>
+fn first_text<'a>(mut texts: Reader<'a>) -> Option<&'a [u8]>
     ensures { MatchOption result (text_in (step texts.entry.job.now texts.entry.at) ≡ None) (λ t. text_in (step texts.entry.job.now texts.entry.at) ≡ Some t.now) }
 {
-    let mut reader = texts;
-    let Ok(Some(placed)) = reader.next() else {
-        return None;
-    };
-    let Record::Text(text) = placed.record else {
-        return None;
-    };
-    Some(text)
+    let placed = texts.next().ok()??;
+    match placed.record {
+        Record::Text(text) => Some(text),
+        _ => None,
+    }
 }
 
 /// Searches a job's first text from a place on; what comes after it is not looked at.
@@ -38,22 +28,16 @@ pub(crate) fn search(
     job: &[u8],
     place: usize,
     searcher: Searcher,
-) -> Result<Outcome, Fault>
-    ensures outcome { MatchResult result (λ o. outcome job.now place searcher ≡ Ok o) (TurnedDown (outcome job.now place searcher)) }
-    ensures small { SmallHit result }
+) -> Result<Match, Miss>
+    ensures outcome { MatchResult result (λ m. outcome job.now place searcher ≡ Ok m) (TurnedDown (outcome job.now place searcher)) }
+    ensures small { IfOk result Small }
 {
     let opened = open(heap, job)?;
     if searcher.misfits(&opened.book) {
-        return Err(Fault {
-            refusal: Refusal::BadMaskCount,
-            place: opened.texts.at,
-        });
+        return Err(Miss::Refused(Refusal::BadMaskCount));
     }
-    let Some(text) = first_text(opened.texts) else {
-        return Ok(Outcome::NoText);
-    };
-    match searcher.find(heap, opened.book, text, place)? {
-        Some(hit) => Ok(Outcome::Hit(hit)),
-        None => Ok(Outcome::NoHit),
-    }
+    let text = first_text(opened.texts).ok_or(Miss::NoText)?;
+    searcher
+        .find(heap, opened.book, text, place)?
+        .ok_or(Miss::NoHit)
 }

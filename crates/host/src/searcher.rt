@@ -1,5 +1,4 @@
-ghost use Rattle.std.specs.Prelude.{◌≡◌, cond, Ok, Err, MatchResult};
-ghost use Rattle.rules.specs.declared.fault.Refusal.TheVariants.{BadMaskCount, Memory};
+ghost use Rattle.std.specs.Prelude.{◌≡◌, IfOk};
 ghost use Rattle.rules.specs.Search.{found};
 ghost use Rattle.pattern.specs.Closed.{book_of};
 ghost use Rattle.host.specs.Searchers.{searcher_of, misfits};
@@ -9,14 +8,13 @@ use finder::plain::Plain;
 use halves::array::ArrayHalf;
 use pattern::book::Book;
 use rabinkarp::rabinkarp::RabinKarp;
-use rules::fault::Fault;
 use rules::primitives::Match;
-use std::alloc::Global;
+use std::alloc::{AllocError, Global};
 use std::rc::Rc;
 use teddy::slim::Slim;
 use vector::single::Single;
 
-/// A kind of searcher; one with masks has their count.
+/// A kind of searcher; one with masks has their count. The C interface has numbers for these three.
 #[derive(Clone, Copy)]
 pub(crate) enum Searcher {
     Plain,
@@ -54,23 +52,14 @@ impl Searcher {
         book: Book,
         text: &[u8],
         at: usize,
-    ) -> Result<Option<Match>, Fault>
-        ensures { MatchResult result (λ o. o ≡ found (book_of book) text.now at) (λ e. e.refusal ≡ Memory) }
+    ) -> Result<Option<Match>, AllocError>
+        ensures { IfOk result (λ o. o ≡ found (book_of book) text.now at) }
     {
         let shared = Rc::new(heap, book)?;
-        match self {
-            Searcher::Plain => {
-                let plain = Plain::new(shared);
-                Ok(plain.find(text, at))
-            }
-            Searcher::RollingHash => {
-                let rabinkarp = RabinKarp::new(shared);
-                Ok(rabinkarp.find(text, at))
-            }
-            Searcher::Masks(count) => {
-                let slim: Slim<Single<ArrayHalf>> = Slim::new(shared, count);
-                Ok(slim.find(text, at))
-            }
-        }
+        Ok(match self {
+            Searcher::Plain => Plain::new(shared).find(text, at),
+            Searcher::RollingHash => RabinKarp::new(shared).find(text, at),
+            Searcher::Masks(count) => Slim::<Single<ArrayHalf>>::new(shared, count).find(text, at),
+        })
     }
 }

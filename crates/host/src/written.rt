@@ -1,26 +1,19 @@
-ghost use Rattle.std.specs.Prelude.{◌≡◌};
+ghost use Rattle.std.specs.Prelude.{◌≡◌, flat_map};
 ghost use Rattle.host.specs.Written.{low, written};
 
 use rules::primitives::Match;
 
 /// An id, a start and an end, four bytes each, low byte first.
-pub(crate) fn written(hit: Match) -> [u8; 12]
-    ensures { result ≡ written hit }
+pub(crate) fn written(hit: Match) -> [[u8; 4]; 3]
+    ensures { flat_map (λ x. x) result ≡ written hit }
 {
-    let [a, b, c, d] = low(hit.pattern.as_usize());
-    let [e, f, g, h] = low(hit.start);
-    let [i, j, k, l] = low(hit.end);
-    [a, b, c, d, e, f, g, h, i, j, k, l]
+    [hit.pattern.as_usize(), hit.start, hit.end].map(low)
 }
 
 /// The low four bytes of a number, low byte first.
 fn low(n: usize) -> [u8; 4]
     ensures { result ≡ low n }
 {
-    [
-        (n % 256) as u8,
-        (n / 256 % 256) as u8,
-        (n / 65536 % 256) as u8,
-        (n / 16777216 % 256) as u8,
-    ]
+    let [a, b, c, d, ..] = n.to_le_bytes();
+    [a, b, c, d]
 }

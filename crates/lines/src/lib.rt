@@ -6,15 +6,10 @@ ghost use Rattle.std.specs.Prelude.{◌≡◌, true};
 ghost use Rattle.lines.specs.Lines.{Lines};
 
 /// The eleven worked examples hold of the definitions. It answers `true`.
+#[tactic(auto, using(crate::proofs::Examples::lines))]
 pub fn lines_hold() -> bool
     ensures lines { Lines }
     ensures value { result ≡ true }
 {
-    hold();
     true
 }
-
-/// What `lines_hold` states.
-fn hold()
-    ensures { Lines }
-{}

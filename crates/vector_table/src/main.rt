@@ -4,12 +4,14 @@
 
 use halves::array::ArrayHalf;
 use halves::word::WordHalf;
-use std::io;
+use std::{array, fmt, io};
 use vector::double::Double;
 use vector::half::Half;
 use vector::single::Single;
 use vector::vector::Vector;
+use xorshift::Xorshift;
 
+/// An operation of a vector. It runs on four types of vectors, and a closure has one.
 #[derive(Clone, Copy)]
 enum Operation {
     Splat,
@@ -39,11 +41,6 @@ const OPERATIONS: [Operation; 11] = [
     Operation::ShuffleBytes,
 ];
 
-/// The 64-bit lanes of a vector; 0 past the last.
-fn words<V: Vector>(v: V) -> [u64; 4] {
-    [v.lane_64(0), v.lane_64(1), v.lane_64(2), v.lane_64(3)]
-}
-
 /// The number of lanes, and the 64-bit lanes past the last, which are to be 0.
 fn ends<V: Vector>() -> (usize, u64) {
     let full = V::splat(0xff);
@@ -53,44 +50,45 @@ fn ends<V: Vector>() -> (usize, u64) {
     )
 }
 
-/// What an operation answers on the lanes of `s` from the place `i` on and those of `t` from `j` on.
-fn answer<V: Vector>(operation: Operation, s: &[u8], i: usize, t: &[u8], j: usize) -> [u64; 4] {
-    let a = V::load(s, i);
-    let b = V::load(t, j);
+/// What an operation answers on two vectors.
+fn applied<V: Vector>(operation: Operation, a: V, b: V) -> V {
     match operation {
-        Operation::Splat => words(V::splat(0xa5)),
-        Operation::Load => words(a),
-        Operation::IsZero => words(V::splat(if a.is_zero() { 1 } else { 0 })),
-        Operation::CmpEq => words(a.cmpeq(b)),
-        Operation::And => words(a.and(b)),
-        Operation::Or => words(a.or(b)),
-        Operation::ShiftRightFour => words(a.shift_right_four()),
-        Operation::ShiftInOneByte => words(a.shift_in_one_byte(b)),
-        Operation::ShiftInTwoBytes => words(a.shift_in_two_bytes(b)),
-        Operation::ShiftInThreeBytes => words(a.shift_in_three_bytes(b)),
-        Operation::ShuffleBytes => words(a.shuffle_bytes(b)),
+        Operation::Splat => V::splat(0xa5),
+        Operation::Load => a,
+        Operation::IsZero => V::splat(u8::from(a.is_zero())),
+        Operation::CmpEq => a.cmpeq(b),
+        Operation::And => a.and(b),
+        Operation::Or => a.or(b),
+        Operation::ShiftRightFour => a.shift_right_four(),
+        Operation::ShiftInOneByte => a.shift_in_one_byte(b),
+        Operation::ShiftInTwoBytes => a.shift_in_two_bytes(b),
+        Operation::ShiftInThreeBytes => a.shift_in_three_bytes(b),
+        Operation::ShuffleBytes => a.shuffle_bytes(b),
     }
+}
+
+/// The 64-bit lanes of what an operation answers on the lanes of `s` from the place `i` on and those of `t` from `j` on; 0
+/// past the last.
+fn answer<V: Vector>(operation: Operation, s: &[u8], i: usize, t: &[u8], j: usize) -> [u64; 4] {
+    let v = applied(operation, V::load(s, i), V::load(t, j));
+    array::from_fn(|k| v.lane_64(k))
 }
 
 /// What a doubled vector has to answer, made of what single vectors answer on its halves.
 fn doubled<H: Half>(operation: Operation, s: &[u8], t: &[u8]) -> [u64; 4] {
+    let ([a, b, ..], [c, d, ..]) = match operation {
+        Operation::ShiftInOneByte | Operation::ShiftInTwoBytes | Operation::ShiftInThreeBytes => (
+            answer::<Single<H>>(operation, s, 0, t, 16),
+            answer::<Single<H>>(operation, s, 16, s, 0),
+        ),
+        _ => (
+            answer::<Single<H>>(operation, s, 0, t, 0),
+            answer::<Single<H>>(operation, s, 16, t, 16),
+        ),
+    };
     match operation {
-        Operation::ShiftInOneByte | Operation::ShiftInTwoBytes | Operation::ShiftInThreeBytes => {
-            let low = answer::<Single<H>>(operation, s, 0, t, 16);
-            let high = answer::<Single<H>>(operation, s, 16, s, 0);
-            [low[0], low[1], high[0], high[1]]
-        }
-        Operation::IsZero => {
-            let low = answer::<Single<H>>(operation, s, 0, t, 0);
-            let high = answer::<Single<H>>(operation, s, 16, t, 16);
-            let both = low[0] & high[0];
-            [both, both, both, both]
-        }
-        _ => {
-            let low = answer::<Single<H>>(operation, s, 0, t, 0);
-            let high = answer::<Single<H>>(operation, s, 16, t, 16);
-            [low[0], low[1], high[0], high[1]]
-        }
+        Operation::IsZero => [a & c; 4],
+        _ => [a, b, c, d],
     }
 }
 
@@ -104,72 +102,54 @@ fn agree(operation: Operation, s: &[u8], t: &[u8]) -> bool {
         && double == doubled::<WordHalf>(operation, s, t)
 }
 
-fn line(rt: &HostRuntime, name: &str, operation: Operation, s: &[u8], t: &[u8]) -> io::Result<()> {
-    let verdict = if agree(operation, s, t) {
-        "agree"
-    } else {
-        "DIFFER"
-    };
-    let [a, b, c, d] = answer::<Double<WordHalf>>(operation, s, 0, t, 0);
-    println!(rt; "{name}: all kinds {verdict}")?;
-    let [p, q, _, _] = answer::<Single<WordHalf>>(operation, s, 0, t, 0);
-    let p = p.to_le_bytes();
-    let q = q.to_le_bytes();
-    println!(rt; "  single {p:?} {q:?}")?;
-    let a = a.to_le_bytes();
-    let b = b.to_le_bytes();
-    let c = c.to_le_bytes();
-    let d = d.to_le_bytes();
-    println!(rt; "  double {a:?} {b:?} {c:?} {d:?}")
-}
+/// A name, an operation, and the two slices of bytes that it runs on.
+#[derive(Clone, Copy)]
+struct Case<'a>(&'a str, Operation, &'a [u8], &'a [u8]);
 
-/// The next of a row of pseudo-random numbers.
-fn next(state: &mut u64) -> u64 {
-    let mut x = *state;
-    x ^= x.wrapping_shl(13);
-    x ^= x.wrapping_shr(7);
-    x ^= x.wrapping_shl(17);
-    *state = x;
-    x
+impl fmt::Display for Case<'_> {
+    fn fmt<W: fmt::Write>(&self, f: &mut fmt::Formatter<W>) -> fmt::Result {
+        let Case(name, operation, s, t) = *self;
+        let verdict = if agree(operation, s, t) {
+            "agree"
+        } else {
+            "DIFFER"
+        };
+        let [p, q, ..] = answer::<Single<WordHalf>>(operation, s, 0, t, 0).map(u64::to_le_bytes);
+        let [a, b, c, d] = answer::<Double<WordHalf>>(operation, s, 0, t, 0).map(u64::to_le_bytes);
+        write!(
+            f,
+            "{name}: all kinds {verdict}\n  single {p:?} {q:?}\n  double {a:?} {b:?} {c:?} {d:?}"
+        )
+    }
 }
 
 /// Forty bytes, of which most are below 20.
-fn some_bytes(state: &mut u64) -> [u8; 40] {
-    let mut out = [0; 40];
-    for i in 0..40 {
-        let n = next(state);
+fn some_bytes(random: &mut Xorshift) -> [u8; 40] {
+    array::from_fn(|_| {
+        let n = random.next();
         let byte = (n & 0xff) as u8;
-        out[i] = if n & 0x300 == 0 { byte } else { byte % 20 };
-    }
-    out
+        if n & 0x300 == 0 { byte } else { byte % 20 }
+    })
 }
 
 /// On how many of `turns` random inputs all kinds agree in all operations.
 fn agreements(turns: usize) -> usize {
-    let mut state = 88172645463325252;
-    let mut alike = 0usize;
-    for _ in 0..turns {
-        let s = some_bytes(&mut state);
-        let t = some_bytes(&mut state);
-        let from = (next(&mut state) % 40) as usize;
-        let mut all = true;
-        for operation in OPERATIONS {
-            all = all && agree(operation, &s[from..], &t);
-        }
-        if all {
-            alike = alike.wrapping_add(1);
-        }
-    }
-    alike
+    let mut random = Xorshift::FIRST;
+    (0..turns)
+        .filter(|_| {
+            let s = some_bytes(&mut random);
+            let t = some_bytes(&mut random);
+            let from = (random.next() % 40) as usize;
+            OPERATIONS
+                .iter()
+                .all(|operation| agree(*operation, &s[from..], &t))
+        })
+        .count()
 }
 
 /// The numbers from `first` on.
 fn rising(first: u8) -> [u8; 32] {
-    let mut out = [0; 32];
-    for i in 0..32u8 {
-        out[i as usize] = first.wrapping_add(i);
-    }
-    out
+    array::from_fn(|i| first.wrapping_add((i & 0xff) as u8))
 }
 
 /// Equal lanes, nybbles of all ones, and indices below and above 15.
@@ -179,43 +159,34 @@ const MIXED: &[u8; 32] =
 fn main(rt: HostRuntime) -> io::Result<()> {
     let low = rising(0);
     let high = rising(100);
-    line(&rt, "splat", Operation::Splat, &low, MIXED)?;
-    line(&rt, "load", Operation::Load, MIXED, &low)?;
-    line(&rt, "load past the end", Operation::Load, &[1, 2, 3], &low)?;
-    line(&rt, "is_zero", Operation::IsZero, MIXED, &low)?;
-    line(&rt, "is_zero of nothing", Operation::IsZero, &[], &low)?;
-    line(&rt, "cmpeq", Operation::CmpEq, MIXED, &[7; 32])?;
-    line(&rt, "and", Operation::And, MIXED, &high)?;
-    line(&rt, "or", Operation::Or, MIXED, &high)?;
-    line(
-        &rt,
-        "shift_right_four",
-        Operation::ShiftRightFour,
-        MIXED,
-        &low,
-    )?;
-    line(
-        &rt,
-        "shift_in_one_byte",
-        Operation::ShiftInOneByte,
-        &low,
-        &high,
-    )?;
-    line(
-        &rt,
-        "shift_in_two_bytes",
-        Operation::ShiftInTwoBytes,
-        &low,
-        &high,
-    )?;
-    line(
-        &rt,
-        "shift_in_three_bytes",
-        Operation::ShiftInThreeBytes,
-        &low,
-        &high,
-    )?;
-    line(&rt, "shuffle_bytes", Operation::ShuffleBytes, &high, MIXED)?;
+    let cases = [
+        Case("splat", Operation::Splat, &low, MIXED),
+        Case("load", Operation::Load, MIXED, &low),
+        Case("load past the end", Operation::Load, &[1, 2, 3], &low),
+        Case("is_zero", Operation::IsZero, MIXED, &low),
+        Case("is_zero of nothing", Operation::IsZero, &[], &low),
+        Case("cmpeq", Operation::CmpEq, MIXED, &[7; 32]),
+        Case("and", Operation::And, MIXED, &high),
+        Case("or", Operation::Or, MIXED, &high),
+        Case("shift_right_four", Operation::ShiftRightFour, MIXED, &low),
+        Case("shift_in_one_byte", Operation::ShiftInOneByte, &low, &high),
+        Case(
+            "shift_in_two_bytes",
+            Operation::ShiftInTwoBytes,
+            &low,
+            &high,
+        ),
+        Case(
+            "shift_in_three_bytes",
+            Operation::ShiftInThreeBytes,
+            &low,
+            &high,
+        ),
+        Case("shuffle_bytes", Operation::ShuffleBytes, &high, MIXED),
+    ];
+    for case in cases {
+        println!(rt; "{case}")?;
+    }
     let (single, past_single) = ends::<Single<ArrayHalf>>();
     let (double, past_double) = ends::<Double<ArrayHalf>>();
     let same = ends::<Single<WordHalf>>() == (single, past_single)
@@ -223,6 +194,5 @@ fn main(rt: HostRuntime) -> io::Result<()> {
     println!(rt;
         "lanes {single} and {double}, past the last {past_single} and {past_double}, the same of both halves: {same}"
     )?;
-    let alike = agreements(300);
-    println!(rt; "random: {alike} of 300 agree")
+    println!(rt; "random: {} of 300 agree", agreements(300))
 }

@@ -1,0 +1,11 @@
+-- stepped x   the state after x: three shifts, each combined with what was shifted by exclusive or
+use Rattle.std.specs.Prelude.{ℕ, ◌*◌, ◌/◌, ◌%◌, ◌^◌, bit_xor}
+
+abbrev pub left : ℕ → ℕ → ℕ
+left k x = bit_xor x (x * 2 ^ k % 2 ^ 64)
+
+abbrev pub right : ℕ → ℕ → ℕ
+right k x = bit_xor x (x / 2 ^ k)
+
+abbrev pub stepped : ℕ → ℕ
+stepped x = left 17 (right 7 (left 13 x))

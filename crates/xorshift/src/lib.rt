@@ -1,0 +1,30 @@
+//! Pseudo-random numbers for tests, the same in each run.
+
+#![tactic(auto)]
+
+ghost use Rattle.std.specs.Prelude.{◌≡◌};
+ghost use Rattle.xorshift.specs.Xorshift.{stepped};
+
+/// Marsaglia's xorshift generator with 64 bits of state.
+#[derive(Clone, Copy)]
+pub struct Xorshift {
+    pub state: u64,
+}
+
+impl Xorshift {
+    /// The generator in the state that is usually taken first.
+    pub const FIRST: Xorshift = Xorshift {
+        state: 88172645463325252,
+    };
+
+    /// The next number, which is the state then.
+    pub fn next(&mut self) -> u64
+        ensures value { result ≡ stepped self.old.state }
+        ensures state { self.new.state ≡ stepped self.old.state }
+    {
+        self.state ^= self.state << 13;
+        self.state ^= self.state >> 7;
+        self.state ^= self.state << 17;
+        self.state
+    }
+}
