@@ -1,4 +1,3 @@
-pub mod Lookups
 pub mod Entering
 pub mod Trying
 pub mod Shortest

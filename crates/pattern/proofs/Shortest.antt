@@ -1,5 +1,5 @@
 -- The shortest length is that of no longer pattern, and not 0.
-use Rattle.std.proofs.Common.{ℕ, zero, suc, ◌-◌, ◌^◌, ◌<◌, ◌≤◌, min, List, [], ◌∷◌, length, get_or, fold, arith}
+use Rattle.std.proofs.Common.{ℕ, zero, suc, ◌-◌, ◌^◌, ◌<◌, ◌≤◌, min, List, [], ◌∷◌, length, get_or, fold, arith, rules}
 use Rattle.rules.specs.Book.{Book, count_of, size, shortest}
 
 below : (ps : List (List ℕ)) (a : ℕ) → fold (λ m p. min m (length p)) a ps ≤ a
@@ -7,7 +7,7 @@ below [] a = omega arith
 below (p ∷ ps) a = omega (arith, below ps (min a (length p)))
 
 least : (ps : List (List ℕ)) (a k : ℕ) → k < length ps → fold (λ m p. min m (length p)) a ps ≤ length (get_or ps k [])
-least [] a k h = absurd (omega arith)
+least [] a k h = search rules
 least (p ∷ ps) a zero h = omega (arith, below ps (min a (length p)))
 least (p ∷ ps) a (suc k) h = least ps (min a (length p)) k (omega arith)
 

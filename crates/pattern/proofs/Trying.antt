@@ -1,5 +1,5 @@
 -- The order in which patterns are tried has every id, a preferred one before the others.
-use Rattle.std.proofs.Common.{◌≡◌, ℕ, suc, ◌<◌, cond, eqb, List, [], ◌∷◌, length, get_or, sym, inl, inr, arith}
+use Rattle.std.proofs.Common.{◌≡◌, ℕ, suc, ◌<◌, cond, eqb, List, [], ◌∷◌, length, get_or, sym, inl, inr, arith, rules}
 use Rattle.std.proofs.lemmas.List.Sums.{sum_by-cons}
 use Rattle.std.proofs.lemmas.Bool.{cases_eq, ne_eqb, cond-false}
 use Rattle.rules.specs.declared.primitives.MatchKind.{MatchKind}
@@ -13,7 +13,7 @@ use Rattle.pattern.specs.Closed.{book_of, order_in}
 
 -- a number that a list has stands somewhere
 place_of : (k : ℕ) (xs : List ℕ) → 0 < times k xs → (j : ℕ) × (j < length xs) × (get_or xs j 0 ≡ k)
-place_of k [] h = absurd (omega arith)
+place_of k [] h = search rules
 place_of k (x ∷ xs) h = elim (cases_eq x k) [
   | inl e ↦ (0, omega arith, e)
   | inr ne ↦
@@ -52,16 +52,6 @@ reading_order t s =
     let h = tried t t.kind s in
     record { long = h.long; known = h.known; all = h.all; preferred = h.preferred }
 
-pub sound_of : (b : Closed) → Sound b.table
-sound_of b = record {
-  summed = b.summed;
-  least = b.least;
-  ordered = record { long = b.long; known = b.known; once = b.once; falling = b.falling; rising = b.rising };
-  listed = b.listed;
-  rises = b.rises;
-  within = record { some = b.some; few = b.few; short = b.short };
-}
-
 -- and so have the ids of a closed book, in the order of its kind
 pub ordered : (b : Closed) (ids : List ℕ) → ids ≡ order_in b → ReadingOrder (book_of b) ids
-ordered b ids e = rw e (reading_order b.table (sound_of b))
+ordered b ids e = rw e (reading_order b.table (search rules))
