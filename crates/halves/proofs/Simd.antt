@@ -1,14 +1,14 @@
 -- The operations of `std::simd` on sixteen bytes, as rows of lanes, and an array that `from_fn` makes.
 use denote.Param.Members.{Mut}
-use lib.Lanes.{chunk, zip2, sel_l, fold_l, number_l, digits_l, top, Each1}
+use lib.Lanes.{chunk, zip2, sel_l, fold_l, number_l, digits_l, top}
 use lib.Bits.{bit_and, bit_or}
 use mir.Syntax.{w8}
 use mir.Val.{zeroes}
 use lib.Dec.{T}
 use Rattle.std.specs.Fn.{Called}
 use Rattle.std.specs.Array.{IsFromFnResult, IsFromFnResultFrom}
-use Rattle.std.proofs.Common.{subst, min, ◌≡◌, ℕ, zero, suc, ◌+◌, ◌-◌, ◌*◌, ◌/◌, ◌%◌, ◌^◌, ◌<◌, ◌≤◌, Bool, true, false, cond, ◌&&◌, ◌||◌, eqb, ltb, leb, List, [], ◌∷◌, ◌++◌, map, length, replicate, get_or, take, drop, refl, sym, ap, ◌∙◌, ⊎_elim, arith}
-use Rattle.std.proofs.lemmas.Simd.{length-zip2, get_or-zip2, zip2_splat, get_or-sel_l, length-sel_l, tops_compared, get_or-replicate, swz_l, SwzOk, get_or-swz_l, length-swz_l, SwzOk-from_Each1, Each1-from_get_or, get_or_wider, get_or_narrower}
+use Rattle.std.proofs.Common.{subst, min, ◌≡◌, ℕ, zero, suc, ◌+◌, ◌-◌, ◌*◌, ◌/◌, ◌%◌, ◌^◌, ◌<◌, ◌≤◌, Bool, true, false, cond, ◌&&◌, ◌||◌, eqb, ltb, leb, List, [], ◌∷◌, map, length, replicate, get_or, take, drop, refl, sym, ap, ◌∙◌, ⊎_elim, arith}
+use Rattle.std.proofs.lemmas.Simd.{length-zip2, get_or-zip2, get_or-sel_l, length-sel_l, tops_compared, get_or-replicate, swz_l, SwzOk, get_or-swz_l, length-swz_l, SwzOk-from_Each1, Each1-from_get_or, get_or_wider, get_or_narrower}
 use Rattle.std.proofs.lemmas.List.{get_or_past, get_or-drop, get_or-take, length-take-le, length-drop, take_all, drop_more}
 use Rattle.std.proofs.lemmas.Bool.{cases_lt}
 use Rattle.std.proofs.lemmas.Bool.Decides.{nat_tests}
