@@ -1,14 +1,14 @@
 -- The operations of `std::simd` on sixteen bytes, as rows of lanes, and an array that `from_fn` makes.
 use denote.Param.Members.{Mut}
-use lib.Lanes.{chunk, zip2, sel_l, fold_l, number_l, digits_l, top, Each1}
+use lib.Lanes.{chunk, zip2, sel_l, fold_l, number_l, digits_l, top}
 use lib.Bits.{bit_and, bit_or}
 use mir.Syntax.{w8}
 use mir.Val.{zeroes}
 use lib.Dec.{T}
 use Rattle.std.specs.Fn.{Called}
 use Rattle.std.specs.Array.{IsFromFnResult, IsFromFnResultFrom}
-use Rattle.std.proofs.Common.{subst, min, ◌≡◌, ℕ, zero, suc, ◌+◌, ◌-◌, ◌*◌, ◌/◌, ◌%◌, ◌^◌, ◌<◌, ◌≤◌, Bool, true, false, cond, ◌&&◌, ◌||◌, eqb, ltb, leb, List, [], ◌∷◌, ◌++◌, map, length, replicate, get_or, take, drop, refl, sym, ap, ◌∙◌, ⊎_elim, arith}
-use Rattle.std.proofs.lemmas.Simd.{length-zip2, get_or-zip2, zip2_splat, get_or-sel_l, length-sel_l, tops_compared, get_or-replicate, swz_l, SwzOk, get_or-swz_l, length-swz_l, SwzOk-from_Each1, Each1-from_get_or, get_or_wider, get_or_narrower}
+use Rattle.std.proofs.Common.{subst, min, ◌≡◌, ℕ, zero, suc, ◌+◌, ◌-◌, ◌*◌, ◌/◌, ◌%◌, ◌^◌, ◌<◌, ◌≤◌, Bool, true, false, cond, ◌&&◌, ◌||◌, eqb, ltb, leb, List, [], ◌∷◌, map, length, replicate, get_or, take, drop, refl, sym, ap, ◌∙◌, ⊎_elim, arith}
+use Rattle.std.proofs.lemmas.Simd.{length-zip2, get_or-zip2, get_or-sel_l, length-sel_l, tops_compared, get_or-replicate, swz_l, SwzOk, get_or-swz_l, length-swz_l, SwzOk-from_Each1, Each1-from_get_or, get_or_wider, get_or_narrower}
 use Rattle.std.proofs.lemmas.List.{get_or_past, get_or-drop, get_or-take, length-take-le, length-drop, take_all, drop_more}
 use Rattle.std.proofs.lemmas.Bool.{cases_lt}
 use Rattle.std.proofs.lemmas.Bool.Decides.{nat_tests}
@@ -139,20 +139,25 @@ unfolding number
 number_at zero xs p h = refl
 number_at (suc n) xs p h = rw (drop_more xs p 0 (omega arith)) (ap (λ x. lane xs p + 256 * x) (number_at n xs (p + 1) (omega arith)))
 
--- the k-th of the two words that sixteen bytes make
-pub word_at : (xs : List ℕ) (k : ℕ) → length xs ≡ 16 → ((i : ℕ) → lane xs i < 256) → get_or (digits_l (2 ^ 64) 2 (number_l 256 xs)) k 0 ≡ lane64 xs k
-word_at xs k long b =
-    ⊎_elim
-    (λ (l : k < 2). get_or_wider 256 8 (2 ^ 64) 2 xs k refl (Each1-from_get_or (λ x. x < 256) xs 0 (λ i _. b i)) l ∙ number_at 8 xs (8 * k) (omega arith))
-    (λ (r : 2 ≤ k). get_or_past (digits_l (2 ^ 64) 2 (number_l 256 xs)) k 0 r ∙ sym (number_past 8 xs (8 * k) (omega arith)))
-    (cases_lt k 2)
+-- the two words that sixteen bytes make
+word_at : (xs : List ℕ) → length xs ≡ 16 → ((i : ℕ) → lane xs i < 256) → (k : ℕ) → k < 2 → get_or (digits_l (2 ^ 64) 2 (number_l 256 xs)) k 0 ≡ lane64 xs k
+word_at xs long b k l = get_or_wider 256 8 (2 ^ 64) 2 xs k refl (Each1-from_get_or (λ x. x < 256) xs 0 (λ i _. b i)) l ∙ number_at 8 xs (8 * k) (omega arith)
+
+pub words_of : (xs : List ℕ) → length xs ≡ 16 → ((i : ℕ) → lane xs i < 256) → digits_l (2 ^ 64) 2 (number_l 256 xs) ≡ lane64 xs 0 ∷ lane64 xs 1 ∷ []
+words_of xs long b =
+    let p = word_at xs long b 0 (omega arith) in
+    let q = word_at xs long b 1 (omega arith) in
+    ap (λ x. x ∷ number_l 256 xs / 2 ^ 64 % 2 ^ 64 ∷ []) p ∙ ap (λ x. lane64 xs 0 ∷ x ∷ []) q
+
+pub past_64 : (xs : List ℕ) (k : ℕ) → length xs ≡ 16 → 2 ≤ k → lane64 xs k ≡ 0
+past_64 xs k long h = number_past 8 xs (8 * k) (omega arith)
 
 -- ---- a load
 module _ (s : List ℕ) (p m : ℕ) (e : m ≡ min p (length s)) where
   rest_is : take (length s - m) (drop m s) ≡ drop m s
   rest_is = take_all (length s - m) (drop m s) (omega (arith, length-drop m s))
 
-  pub rest_lane : (i : ℕ) → lane (take (length s - m) (drop m s)) i ≡ lane s (p + i)
+  rest_lane : (i : ℕ) → lane (take (length s - m) (drop m s)) i ≡ lane s (p + i)
   rest_lane i =
       ap (λ xs. lane xs i) rest_is
       ∙ get_or-drop m s i 0
@@ -161,8 +166,13 @@ module _ (s : List ℕ) (p m : ℕ) (e : m ≡ min p (length s)) where
       (λ (r : length s ≤ p). get_or_past s (m + i) 0 (omega arith) ∙ sym (get_or_past s (p + i) 0 (omega arith)))
       (cases_lt p (length s))
 
-  pub front_row : 16 ≤ length (take (length s - m) (drop m s)) → take 16 (take (length s - m) (drop m s)) ≡ loaded 16 s p
-  front_row h = row_is 16 _ _ (length-take-le 16 _ h) (λ k lt. get_or-take 16 (take (length s - m) (drop m s)) k 0 lt ∙ rest_lane k)
+  pub rest_row : loaded 16 (take (length s - m) (drop m s)) 0 ≡ loaded 16 s p
+  rest_row = row_ext 16 _ _ (λ i h. let z : 0 + i ≡ i = omega arith in ap (lane (take (length s - m) (drop m s))) z ∙ rest_lane i)
+
+pub front_row : (s : List ℕ) → 16 ≤ length s → take 16 s ≡ loaded 16 s 0
+front_row s h =
+    row_is 16 _ _ (length-take-le 16 s h)
+    (λ k lt. let z : 0 + k ≡ k = omega arith in get_or-take 16 s k 0 lt ∙ sym (ap (lane s) z))
 
 -- what `from_fn` makes of a closure that no call changes
 module _ {F : Type 0} (g : Mut F (ℕ × Unit {0}) ℕ) (f : F) (h : ℕ → ℕ) (each : (i y : ℕ) (f' : F) → i < 16 → Called g f (i, tt) y f' → (y ≡ h i) × (f' ≡ f)) where
@@ -179,4 +189,4 @@ module _ {F : Type 0} (g : Mut F (ℕ × Unit {0}) ℕ) (f : F) (h : ℕ → ℕ
 pub made_row : {F : Type 0} {g : Mut F (ℕ × Unit {0}) ℕ} {f : F} {h : ℕ → ℕ} {xs : List ℕ} → IsFromFnResult g f xs 16 → ((i y : ℕ) (f' : F) → i < 16 → Called g f (i, tt) y f' → (y ≡ h i) × (f' ≡ f)) → xs ≡ row 16 h
 made_row {F} {g} {f} {h} {xs} m each = row_is 16 h xs m.long (λ k lt. made_from g f h each xs 0 16 (omega arith) m.each k (omega arith) (omega arith))
 
-pub ruleset simd_rows = (splat_row, and_row, or_row, shift_row, equal_row, zero_row)
+pub ruleset simd_rows = (splat_row, and_row, or_row, zero_row, rest_row, past_64)
