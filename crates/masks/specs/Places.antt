@@ -9,6 +9,7 @@
 -- Windowed admits c low n at t p q r xs p' q' r'   where p, q, r recall the bytes before the window, xs shows its candidates, and
 --                                    p', q', r' recall the bytes before the next one
 -- Exact n means m at t seen r seen'   what `window` does at a place, for the masks of every book: r shows exactly the candidates
+-- MaskOf n means v b ids key j       the vectors of v hold mask j of the book b
 -- MasksOf n means m b ids key        the vectors of m hold the masks of the book b, of which one to four are used
 use Rattle.std.specs.Prelude.{◌≡◌, ℕ, ◌+◌, ◌-◌, ◌<◌, ◌≤◌, ◌↔◌, List}
 use Rattle.bits.specs.Digits.{IsSet}
@@ -16,6 +17,7 @@ use Rattle.rules.specs.Book.{Book}
 use Rattle.vector.specs.Lanes.{lane}
 use Rattle.tables.specs.Masks.{low_mask, high_mask}
 use Rattle.tables.specs.Rules.{Admits}
+use Rattle.masks.specs.declared.mask.Mask.{Mask}
 use Rattle.masks.specs.declared.candidate.Masks.{Masks}
 use Rattle.masks.specs.declared.candidate.Seen.{Seen}
 use Rattle.masks.specs.Members.{repeated}
@@ -35,17 +37,16 @@ RecallsAll admits c low n at t p q r = (1 < c → Recalls admits low n at t 0 p)
 abbrev pub Windowed : (ℕ → ℕ → ℕ → Type 0) → ℕ → ℕ → ℕ → ℕ → List ℕ → List ℕ → List ℕ → List ℕ → List ℕ → List ℕ → List ℕ → List ℕ → Type 0
 Windowed admits c low n at t p q r xs p' q' r' = RecallsAll admits c low n at t p q r → (Shows admits c low n at t xs × RecallsAll admits c low n (at + n) t p' q' r')
 
+abbrev pub MaskOf : {A : Type 0} → ℕ → (A → List ℕ) → Mask A → Book → List ℕ → (ℕ → ℕ) → ℕ → Type 0
+MaskOf n means v b ids key j = (means v.lo ≡ repeated n (low_mask b ids key j)) × (means v.hi ≡ repeated n (high_mask b ids key j))
+
 pub record MasksOf {A : Type 0} (n : ℕ) (means : A → List ℕ) (m : Masks A) (b : Book) (ids : List ℕ) (key : ℕ → ℕ) : Type 0 where
   pub some : 0 < m.count
   pub few : m.count ≤ 4
-  pub lo₁ : means m.first.lo ≡ repeated n (low_mask b ids key 0)
-  pub hi₁ : means m.first.hi ≡ repeated n (high_mask b ids key 0)
-  pub lo₂ : means m.second.lo ≡ repeated n (low_mask b ids key 1)
-  pub hi₂ : means m.second.hi ≡ repeated n (high_mask b ids key 1)
-  pub lo₃ : means m.third.lo ≡ repeated n (low_mask b ids key 2)
-  pub hi₃ : means m.third.hi ≡ repeated n (high_mask b ids key 2)
-  pub lo₄ : means m.fourth.lo ≡ repeated n (low_mask b ids key 3)
-  pub hi₄ : means m.fourth.hi ≡ repeated n (high_mask b ids key 3)
+  pub first : MaskOf n means m.first b ids key 0
+  pub second : MaskOf n means m.second b ids key 1
+  pub third : MaskOf n means m.third b ids key 2
+  pub fourth : MaskOf n means m.fourth b ids key 3
 
 abbrev pub Exact : {A : Type 0} → ℕ → (A → List ℕ) → Masks A → ℕ → List ℕ → Seen A → A → Seen A → Type 0
 Exact n means m at t seen r seen' =

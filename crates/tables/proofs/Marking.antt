@@ -2,11 +2,12 @@
 use Rattle.std.proofs.Common.{◌≡◌, ℕ, zero, suc, ◌+◌, ◌/◌, ◌%◌, ◌^◌, ◌<◌, ◌≤◌, cond, eqb, ◌⊎◌, ◌↔◌, List, [], ◌∷◌, length, get_or, take, set, fold, sym, refl, ◌∙◌, inl, inr, ⊎_elim, arith}
 use lib.Bits.{bit_or, or_zero_r}
 use Rattle.std.proofs.lemmas.Nat.Bits.{bit_at_or, bit_at-zero, bit_at-pow_same, bit_at-pow_other}
-use Rattle.std.proofs.lemmas.List.{length-set, get_or-set_same, get_or-set_other}
+use Rattle.std.proofs.lemmas.List.{take_all, length-set, get_or-set_same, get_or-set_other}
 use Rattle.std.proofs.lemmas.List.Sums.{fold_more}
 use Rattle.std.proofs.lemmas.Bool.{cases_eq, cases_lt, eq-eqb, ne_eqb}
 use Rattle.bits.specs.Digits.{IsSet}
-use Rattle.vector.specs.Lanes.{lane}
+use Rattle.vector.specs.Lanes.{lane, row}
+use Rattle.vector.specs.Rows.{row_is}
 use Rattle.tables.specs.Masks.{marks}
 
 -- a digit of x | y is one of either
@@ -64,6 +65,10 @@ module _ (key nybble : ℕ → ℕ) where
           | inr ne ↦ rw (more, get_or-set_other xs k n v 0 ne, inv.1 n lt, ne_eqb (nybble (get_or ids i 0)) n (λ q. ne (sym q ∙ sym e)), or_zero_r (marks key nybble n (take i ids))) refl
         ],
   )
+
+  -- at the end of the order
+  pub marked_all : (ids xs : List ℕ) (i : ℕ) → length ids ≤ i → Marked (take i ids) xs → xs ≡ row 16 (λ n. marks key nybble n ids)
+  marked_all ids xs i le inv = row_is 16 (λ n. marks key nybble n ids) xs inv.0 (λ n lt. rw (take_all i ids le) at (inv.1 n lt))
 
 -- the marks depend on the keys of the ids alone
 folded_same : (key other nybble : ℕ → ℕ) (n : ℕ) (xs : List ℕ) (m : ℕ) → ((i : ℕ) → i < length xs → key (get_or xs i 0) ≡ other (get_or xs i 0))

@@ -1,7 +1,6 @@
 use Rattle.std.proofs.Common.{◌≡◌, ℕ, ◌+◌, ◌<◌, ◌≤◌, List, sym, subst, ⊎_elim, arith}
-use Rattle.vector.specs.Lanes.{loaded}
+use Rattle.vector.specs.Lanes.{lane}
 use Rattle.tables.specs.Rules.{Admits}
-use Rattle.masks.specs.Members.{members}
 use Rattle.masks.specs.Candidates.{kept}
 use Rattle.masks.specs.Places.{Shows, Recalls}
 use Rattle.masks.proofs.Exact.{Sees, newer, shows, recalls}
@@ -18,12 +17,11 @@ returns g c b ids key low of le saw =
     let at = c.args.at in
     let m = c.args.self.now in
     let chunk = c.load.ensures in
-    let see : (j : ℕ) (lo hi : List ℕ) → _ → _ → Sees (Admits b ids key) n text at j (members n lo hi (loaded n text at)) =
-    λ j lo hi. sees n wide b ids key text (λ i. omega (arith, c.type_inv.text i)) at j lo hi in
-    let s₁ = see 0 (means m.first.lo) (means m.first.hi) of.lo₁ of.hi₁ in
-    let s₂ = see 1 (means m.second.lo) (means m.second.hi) of.lo₂ of.hi₂ in
-    let s₃ = see 2 (means m.third.lo) (means m.third.hi) of.lo₃ of.hi₃ in
-    let s₄ = see 3 (means m.fourth.lo) (means m.fourth.hi) of.lo₄ of.hi₄ in
+    let fit : (i : ℕ) → lane text i < 256 = λ i. omega (arith, c.type_inv.text i) in
+    let s₁ = sees n wide b ids key text fit at 0 means m.first of.first in
+    let s₂ = sees n wide b ids key text fit at 1 means m.second of.second in
+    let s₃ = sees n wide b ids key text fit at 2 means m.third of.third in
+    let s₄ = sees n wide b ids key text fit at 3 means m.fourth of.fourth in
     let said = c.candidate.ensures in
     let next : (j k : ℕ) (z old new : List ℕ) → k < m.count → z ≡ kept m.count k old new → Sees (Admits b ids key) n text at j new → Recalls (Admits b ids key) low n (at + n) text j z =
     λ j k z old new lt e s. recalls (Admits b ids key) n text low at le j z (subst (Sees (Admits b ids key) n text at j) (sym (newer m.count k z old new lt e)) s) in (

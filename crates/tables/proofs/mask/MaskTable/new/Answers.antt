@@ -1,16 +1,15 @@
-use Rattle.std.proofs.Common.{◌≡◌, ℕ, ◌*◌, ◌/◌, ◌%◌, ◌^◌, ◌<◌, ◌≤◌, length, get_or, take, ap, ◌∙◌, arith}
+use Rattle.std.proofs.Common.{◌≡◌, ℕ, ◌*◌, ◌/◌, ◌%◌, ◌^◌, ◌<◌, ◌≤◌, length, get_or, ap, ◌∙◌, arith}
 use lib.Bits.{bit_or}
 use lib.ListN.{get_or-map}
 use Rattle.std.proofs.lemmas.Nat.{one_shl}
-use Rattle.std.proofs.lemmas.List.{length-map, take_all}
+use Rattle.std.proofs.lemmas.List.{length-map}
 use Rattle.rules.specs.Book.{id, pattern}
 use Rattle.pattern.specs.Order.{number}
 use Rattle.pattern.specs.Closed.{book_of, order_in}
 use Rattle.finder.proofs.Choosing.{read}
 use Rattle.vector.specs.Lanes.{lane}
-use Rattle.vector.specs.Rows.{row_is}
-use Rattle.tables.specs.Masks.{byte_of, marks}
-use Rattle.tables.proofs.Marking.{marked_more}
+use Rattle.tables.specs.Masks.{byte_of}
+use Rattle.tables.proofs.Marking.{marked_more, marked_all}
 use Rattle.tables.proofs.mask.MaskTable.new.Goals as goal
 use Rattle.tables.proofs.mask.MaskTable.new.Goals.{After-as_usize}
 
@@ -40,10 +39,8 @@ loop-id-preserved c =
     let fits : x < 256 = omega arith in
     let k = get_or c.args.buckets.now c.as_usize.result 0 % 8 in
     let bit : (1 * 2 ^ k) % 256 ≡ 2 ^ key (get_or ids i 0) = one_shl k 8 (omega arith) ∙ ap (λ m. 2 ^ key m) (c.as_usize.ensures ∙ is) in (
-      marked_more key (λ m. byte_of b j m % 16) ids c.loop-id.lo i (x % 16) (bit_or (lane c.loop-id.lo (x % 16)) ((1 * 2 ^ k) % 256)) il c.loop-id.invariant.0
-          (ap (λ y. y % 16) byte) (omega arith) (ap (bit_or (lane c.loop-id.lo (x % 16))) bit),
-      marked_more key (λ m. byte_of b j m / 16) ids c.loop-id.hi i (x / 16) (bit_or (lane c.loop-id.hi (x / 16)) ((1 * 2 ^ k) % 256)) il c.loop-id.invariant.1
-          (ap (λ y. y / 16) byte) (omega arith) (ap (bit_or (lane c.loop-id.hi (x / 16))) bit),
+      marked_more key (λ m. byte_of b j m % 16) ids c.loop-id.lo i (x % 16) _ il c.loop-id.invariant.0 (ap (λ y. y % 16) byte) (omega arith) (ap (bit_or (lane c.loop-id.lo (x % 16))) bit),
+      marked_more key (λ m. byte_of b j m / 16) ids c.loop-id.hi i (x / 16) _ il c.loop-id.invariant.1 (ap (λ y. y / 16) byte) (omega arith) (ap (bit_or (lane c.loop-id.hi (x / 16))) bit),
     )
 
 pub returns : goal.returns
@@ -52,9 +49,9 @@ returns c =
     let ids = order_in c.args.book.now in
     let key : ℕ → ℕ = λ i. get_or c.args.buckets.now i 0 % 8 in
     let j = c.args.j in
-    let le : length ids ≤ c.loop-id.id-index = omega (arith, c.loop-id-test.false, ap length c.order-id-items.ensures.same, length-map c.order-id-items.result.now number) in
-    let all : take c.loop-id.id-index ids ≡ ids = take_all c.loop-id.id-index ids le in
+    let i = c.loop-id.id-index in
+    let le : length ids ≤ i = omega (arith, c.loop-id-test.false, ap length c.order-id-items.ensures.same, length-map c.order-id-items.result.now number) in
     record {
-      lo = row_is 16 (λ n. marks key (λ m. byte_of b j m % 16) n ids) c.loop-id.lo c.loop-id.invariant.0.0 (λ n lt. c.loop-id.invariant.0.1 n lt ∙ ap (marks key (λ m. byte_of b j m % 16) n) all);
-      hi = row_is 16 (λ n. marks key (λ m. byte_of b j m / 16) n ids) c.loop-id.hi c.loop-id.invariant.1.0 (λ n lt. c.loop-id.invariant.1.1 n lt ∙ ap (marks key (λ m. byte_of b j m / 16) n) all);
+      lo = marked_all key (λ m. byte_of b j m % 16) ids c.loop-id.lo i le c.loop-id.invariant.0;
+      hi = marked_all key (λ m. byte_of b j m / 16) ids c.loop-id.hi i le c.loop-id.invariant.1;
     }
