@@ -1,7 +1,8 @@
 -- The texts of a job, one after another.
-use Rattle.std.proofs.Common.{◌≡◌, ℕ, suc, ◌+◌, ◌≤◌, true, false, cond, List, [], ◌∷◌, ◌++◌, map, length, is_ok, Some, None, Ok, Err, Option, Result, sym, refl, ap, ◌∙◌, ⊎_elim, append_assoc, append-nil, add-zero, add-one, arith}
+use Rattle.std.proofs.Common.{◌≡◌, ℕ, suc, ◌+◌, ◌≤◌, true, false, cond, List, [], ◌∷◌, ◌++◌, map, length, is_ok, Some, None, Ok, Err, Option, Result, sym, refl, ap, ◌∙◌, append_assoc, append-nil, add-zero, add-one, arith}
 use Rattle.std.proofs.lemmas.List.{length_push}
-use Rattle.std.proofs.lemmas.Bool.{cond-true, cases_lt}
+use Rattle.std.proofs.lemmas.Bool.{cond-true}
+use Rattle.std.proofs.lemmas.Bool.Decides.{nat_tests}
 use Rattle.rules.specs.declared.fault.Fault.{Fault}
 use Rattle.rules.specs.declared.fault.Refusal.{Refusal}
 use Rattle.rules.specs.declared.fault.Refusal.TheVariants.{AfterText}
@@ -11,7 +12,7 @@ use Rattle.pattern.specs.Entering.{refused}
 use Rattle.job.specs.Format.{Entry, pattern, first, longest, text, over, bad, good, step}
 use Rattle.job.specs.Records.{Item, Reading, item, put, ends, reading}
 use Rattle.job.specs.Opening.{is_text}
-use Rattle.job.proofs.Steps.{step_end, step_over}
+use Rattle.job.proofs.Steps.{step_end}
 use Rattle.job.proofs.Readings.{reading_good, reading_bad, reading_over}
 use Rattle.account.specs.Accounts.{line, scanned, accepted, ended, lines_of}
 
@@ -42,7 +43,7 @@ ended_other b n at (text t) is s h = cc
 
 -- what is refused stands within the job
 bad_within : (job : List ℕ) (at : ℕ) (r : Refusal) → step job at ≡ bad r → at ≤ length job
-bad_within job at r h = ⊎_elim (λ l. let e = step_over job at (omega arith) in cc) (λ l. l) (cases_lt (length job) at)
+bad_within job at r h = grind (arith, nat_tests)
 
 -- The loop over the texts of a job: ts are the texts accepted so far, and at is the place of the next record.
 module _ (job : List ℕ) (b : Book) (at : ℕ) (ts all : List (List ℕ)) (end : Option Fault) (so_far : ts ++ accepted b (length ts) (reading job at).items ≡ all) (left : ended b (length ts) (reading job at).items (reading job at).stop ≡ end) where

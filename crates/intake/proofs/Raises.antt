@@ -2,7 +2,6 @@
 use Rattle.std.proofs.Common.{◌≡◌, ℕ, List, map, get_or, set}
 use Rattle.std.proofs.Math.ListN.{get_or-map}
 use Rattle.std.proofs.lemmas.List.{map-set}
-use Rattle.rules.specs.declared.primitives.Match.{Match}
 use Rattle.intake.specs.declared.table.Tally.{Tally}
 
 -- a tally is what its record has
@@ -11,7 +10,3 @@ tally_at rs k = get_or-map (λ (r : Tally). r.hits) rs k (record { hits = 0 })
 
 pub tallies_set : (rs : List Tally) (i : ℕ) (r : Tally) → map (λ (r : Tally). r.hits) (set rs i r) ≡ set (map (λ (r : Tally). r.hits) rs) i r.hits
 tallies_set rs i r = map-set (λ (r : Tally). r.hits) rs i r
-
--- what the elements of a slice of matches are read at
-abbrev pub no_match : Match
-no_match = record { pattern = record { 0 = record { 0 = 0 } }; start = 0; end = 0 }

@@ -1,5 +1,4 @@
 ghost use Rattle.std.specs.Prelude.{◌≡◌, map, vec_len, All, MatchResult};
-ghost use Rattle.rules.specs.Ledger.{ask_scan, ask_tally};
 ghost use Rattle.rules.specs.History.{Past, opened};
 ghost use Rattle.intake.specs.Calls.{asks, tell, pairs, following, Outside};
 ghost use Rattle.intake.specs.Intakes.{Serves, ServesCall};
@@ -28,24 +27,6 @@ pub enum Reply {
     Tallied(Result<u32, Fault>),
 }
 
-// Scans a text into a list, and hands the list back.
-fn scan_into<F: Finder>(intake: &mut Intake<F>, text: &[u8], mut hits: Vec<Match>) -> Reply
-    ensures finder { intake.new.finder ≡ intake.old.finder }
-    ensures outside { Outside result }
-    ensures served { ServesCall F.book intake.old (ask_scan text.now hits.items) (tell result) intake.new }
-{
-    let answer = intake.scan(text, hits.as_mut_slice());
-    Reply::Scanned(answer, hits)
-}
-
-// Asks for a tally.
-fn tally_of<F: Finder>(intake: &Intake<F>, id: PatternID) -> Reply
-    ensures outside { Outside result }
-    ensures served { ServesCall F.book intake.now (ask_tally id.0.0) (tell result) intake.now }
-{
-    Reply::Tallied(intake.tally(id))
-}
-
 /// Makes one call.
 pub fn serve<F: Finder>(intake: &mut Intake<F>, call: Call<'_>) -> Reply
     ensures finder { intake.new.finder ≡ intake.old.finder }
@@ -53,8 +34,11 @@ pub fn serve<F: Finder>(intake: &mut Intake<F>, call: Call<'_>) -> Reply
     ensures served { ServesCall F.book intake.old (asks call.entry) (tell result) intake.new }
 {
     match call {
-        Call::Scan { text, hits } => scan_into(intake, text, hits),
-        Call::Tally(id) => tally_of(intake, id),
+        Call::Scan { text, mut hits } => {
+            let answer = intake.scan(text, hits.as_mut_slice());
+            Reply::Scanned(answer, hits)
+        }
+        Call::Tally(id) => Reply::Tallied(intake.tally(id)),
     }
 }
 

@@ -4,7 +4,7 @@
 
 use account::report::report;
 use account::run::run;
-use anyhow::anyhow;
+use anyhow::ensure;
 use std::io::Read;
 
 /// A job above 65,536 bytes is refused, so no more than one byte more is read.
@@ -17,8 +17,6 @@ fn main(rt: HostRuntime) -> anyhow::Result<()> {
     let account = run(heap, job.as_slice());
     let text = report(heap, &account)?;
     rt.print(text.as_str())?;
-    match account.end {
-        Ok(_) => Ok(()),
-        Err(_) => Err(anyhow!("the job has a fault")),
-    }
+    ensure!(account.end.is_ok(), "the job has a fault");
+    Ok(())
 }
