@@ -11,7 +11,7 @@ use std::rc::Rc;
 
 const A: PatternID = PatternID(SmallIndex(0));
 
-/// A scan, and then the count and the tally.
+/// A scan, and then the count and the tally. A crate for what this has in common with `intake_edges` would be longer.
 fn show_scan(
     rt: &HostRuntime,
     intake: &mut Intake<Plain>,
