@@ -18,11 +18,7 @@ fn agrees(rt: &HostRuntime, name: &str) -> io::Result<bool> {
 fn main(rt: HostRuntime) -> io::Result<()> {
     let names = fs::read_to_string(&rt, "names")?;
     for name in names.lines() {
-        let verdict = if agrees(&rt, name)? {
-            "ok"
-        } else {
-            "DIFFERS"
-        };
+        let verdict = if agrees(&rt, name)? { "ok" } else { "DIFFERS" };
         println!(rt; "{name} {verdict}")?;
     }
     Ok(())
