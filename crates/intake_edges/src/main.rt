@@ -8,6 +8,7 @@ use intake::intake::Intake;
 use pattern::patterns::Patterns;
 use rules::primitives::{Match, PatternID, SmallIndex};
 use std::alloc::Global;
+use std::io;
 use std::rc::Rc;
 
 /// An entry that no scan writes.
@@ -27,12 +28,11 @@ fn intake_of(heap: Global) -> anyhow::Result<Intake<Plain>> {
 }
 
 /// A tally, or the fault of the call for it.
-fn show_tally(rt: &HostRuntime, intake: &Intake<Plain>, id: u32) -> anyhow::Result<()> {
+fn show_tally(rt: &HostRuntime, intake: &Intake<Plain>, id: u32) -> io::Result<()> {
     match intake.tally(PatternID(SmallIndex(id))) {
-        Ok(tally) => println!(rt; "  tally {id}: {tally}")?,
-        Err(fault) => println!(rt; "  tally {id}: {fault}")?,
+        Ok(tally) => println!(rt; "  tally {id}: {tally}"),
+        Err(fault) => println!(rt; "  tally {id}: {fault}"),
     }
-    Ok(())
 }
 
 /// A scan at a place into a list of `room` old entries.
@@ -42,10 +42,10 @@ fn show_scan(
     place: usize,
     text: &[u8],
     room: usize,
-) -> anyhow::Result<()> {
+) -> io::Result<()> {
     let len = text.len();
     let mut hits = vec![in rt.alloc(); OLD; room]?;
-    match intake.scan_at(place, text, hits.as_mut_slice()) {
+    match intake.scan_at(place, text, &mut hits) {
         Ok(n) => println!(rt; "{len} bytes, room for {room}: {n} hits")?,
         Err(fault) => println!(rt; "{len} bytes, room for {room}: {fault}")?,
     }
@@ -59,21 +59,28 @@ fn show_scan(
 
 fn main(rt: HostRuntime) -> anyhow::Result<()> {
     let mut intake = intake_of(rt.alloc())?;
-    show_scan(&rt, &mut intake, 0, b"", 0)?;
-    // as many entries as hits, one less, and two more
-    show_scan(&rt, &mut intake, 0, b"ABC.A", 3)?;
-    show_scan(&rt, &mut intake, 0, b"ABC.A", 2)?;
-    show_scan(&rt, &mut intake, 17, b"ABC.A", 2)?;
-    show_scan(&rt, &mut intake, 0, b"ABC.A", 5)?;
-    // the longest text, and one byte more, which is said before that the list is too short
-    let mut text = vec![in rt.alloc(); b'.'; 65535]?;
-    text.push(b'A')?;
-    show_scan(&rt, &mut intake, 0, text.as_slice(), 1)?;
-    show_scan(&rt, &mut intake, 0, text.as_slice(), 0)?;
-    text.push(b'A')?;
-    show_scan(&rt, &mut intake, 0, text.as_slice(), 0)?;
+    let mut longest = vec![in rt.alloc(); b'.'; 65535]?;
+    longest.push(b'A')?;
+    let mut too_long = longest.clone()?;
+    too_long.push(b'A')?;
+    let scans: [(usize, &[u8], usize); 8] = [
+        (0, b"", 0),
+        // as many entries as hits, one less, and two more
+        (0, b"ABC.A", 3),
+        (0, b"ABC.A", 2),
+        (17, b"ABC.A", 2),
+        (0, b"ABC.A", 5),
+        // the longest text, and one byte more, which is said before that the list is too short
+        (0, &longest, 1),
+        (0, &longest, 0),
+        (0, &too_long, 0),
+    ];
+    for (place, text, room) in scans {
+        show_scan(&rt, &mut intake, place, text, room)?;
+    }
     // ids that the book lacks
-    show_tally(&rt, &intake, 2)?;
-    show_tally(&rt, &intake, 1024)?;
-    show_tally(&rt, &intake, u32::MAX)
+    for id in [2, 1024, u32::MAX] {
+        show_tally(&rt, &intake, id)?;
+    }
+    Ok(())
 }

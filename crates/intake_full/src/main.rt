@@ -6,17 +6,18 @@ use finder::plain::Plain;
 use intake::intake::Intake;
 use pattern::patterns::Patterns;
 use rules::primitives::{Match, PatternID, SmallIndex};
+use std::io;
 use std::rc::Rc;
 
 const A: PatternID = PatternID(SmallIndex(0));
 
-/// A scan, and then the count and the tally.
+/// A scan, and then the count and the tally. A crate for what this has in common with `intake_edges` would be longer.
 fn show_scan(
     rt: &HostRuntime,
     intake: &mut Intake<Plain>,
     text: &[u8],
     hits: &mut [Match],
-) -> anyhow::Result<()> {
+) -> io::Result<()> {
     let len = text.len();
     let room = hits.len();
     match intake.scan(text, hits) {
@@ -25,10 +26,9 @@ fn show_scan(
     }
     println!(rt; "  texts {}", intake.count())?;
     match intake.tally(A) {
-        Ok(tally) => println!(rt; "  tally 0: {tally}")?,
-        Err(fault) => println!(rt; "  tally 0: {fault}")?,
+        Ok(tally) => println!(rt; "  tally 0: {tally}"),
+        Err(fault) => println!(rt; "  tally 0: {fault}"),
     }
-    Ok(())
 }
 
 /// Has all texts but one accepted.
@@ -49,11 +49,13 @@ fn main(rt: HostRuntime) -> anyhow::Result<()> {
         end: 0,
     };
     let mut hits = vec![in heap; old; 2]?;
-    fill(&mut intake, hits.as_mut_slice());
-    show_scan(&rt, &mut intake, b"AA", hits.as_mut_slice())?;
-    show_scan(&rt, &mut intake, b"AA", hits.as_mut_slice())?;
+    fill(&mut intake, &mut hits);
+    // the last text that is accepted, and one more
+    show_scan(&rt, &mut intake, b"AA", &mut hits)?;
+    show_scan(&rt, &mut intake, b"AA", &mut hits)?;
     // too many texts is said before that the list is too short, and after that the text is too long
     show_scan(&rt, &mut intake, b"AA", &mut [])?;
     let long = vec![in heap; b'A'; 65537]?;
-    show_scan(&rt, &mut intake, long.as_slice(), hits.as_mut_slice())
+    show_scan(&rt, &mut intake, &long, &mut hits)?;
+    Ok(())
 }

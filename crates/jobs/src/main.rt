@@ -11,19 +11,15 @@ fn agrees(rt: &HostRuntime, name: &str) -> io::Result<bool> {
     let heap = rt.alloc();
     let job = fs::read(rt, format!(in heap; "{name}.job")?)?;
     let expected = fs::read(rt, format!(in heap; "{name}.out")?)?;
-    let account = run(heap, job.as_slice());
-    let text = report(heap, &account)?;
+    let text = report(heap, &run(heap, &job))?;
     Ok(text.as_str().as_bytes() == expected.as_slice())
 }
 
 fn main(rt: HostRuntime) -> io::Result<()> {
     let names = fs::read_to_string(&rt, "names")?;
     for name in names.lines() {
-        if agrees(&rt, name)? {
-            println!(rt; "{name} ok")?;
-        } else {
-            println!(rt; "{name} DIFFERS")?;
-        }
+        let verdict = if agrees(&rt, name)? { "ok" } else { "DIFFERS" };
+        println!(rt; "{name} {verdict}")?;
     }
     Ok(())
 }

@@ -21,8 +21,7 @@ impl Random {
 
     /// A number below `n`, or 0 where `n` is 0.
     pub(crate) fn below(&mut self, n: usize) -> usize {
-        let next = self.next();
-        if n == 0 { 0 } else { next % n }
+        self.next().checked_rem(n).unwrap_or(0)
     }
 
     /// `len` of the first `letters` letters.
@@ -32,11 +31,8 @@ impl Random {
         len: usize,
         letters: u8,
     ) -> Result<Vec<u8>, AllocError> {
-        let mut text = Vec::new(heap);
-        for _ in 0..len {
-            let letter = self.below(usize::from(letters));
-            text.push(b'A'.wrapping_add((letter % 128) as u8))?;
-        }
-        Ok(text)
+        (0..len)
+            .map(|_| b'A'.wrapping_add((self.below(usize::from(letters)) & 0x7f) as u8))
+            .collect(heap)
     }
 }
