@@ -13,7 +13,7 @@ use intake::intake::Intake;
 use job::opening::open;
 use job::reader::Reader;
 use rules::fault::Fault;
-use rules::primitives::{PatternID, SmallIndex};
+use rules::primitives::PatternID;
 use std::alloc::Global;
 use std::rc::Rc;
 use teddy::slim::Slim;
@@ -25,7 +25,7 @@ fn tallies<F: Finder>(heap: Global, intake: &Intake<F>, count: usize) -> Result<
     ensures { MatchResult result (λ v. (length v.items ≡ count) × ((i : ℕ) → i < count → slice_index v.items i ≡ slice_index (model F.book intake.now).tallies i)) (λ f. f.refusal ≡ Memory) }
 {
     (0..count)
-        .map(|i| intake.tally(PatternID(SmallIndex(i as u32))))
+        .map(|i| intake.tally(PatternID::from(i as u16)))
         .try_collect(heap)
 }
 

@@ -9,14 +9,14 @@ use intake::intake::Intake;
 use job::reader::Reader;
 use job::record::Record;
 use rules::fault::{Fault, Refusal};
-use rules::primitives::{Match, PatternID, SmallIndex};
+use rules::primitives::{Match, PatternID};
 
 /// How many hits a text may have.
 pub(crate) const MAX_HITS: usize = 4096;
 
 /// What an entry of a list of hits is before a hit is written to it.
 const BLANK: Match = Match {
-    pattern: PatternID(SmallIndex(0)),
+    pattern: PatternID::ZERO,
     start: 0,
     end: 0,
 };

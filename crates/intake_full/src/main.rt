@@ -5,11 +5,11 @@
 use finder::plain::Plain;
 use intake::intake::Intake;
 use pattern::patterns::Patterns;
-use rules::primitives::{Match, PatternID, SmallIndex};
+use rules::primitives::{Match, PatternID};
 use std::io;
 use std::rc::Rc;
 
-const A: PatternID = PatternID(SmallIndex(0));
+const A: PatternID = PatternID::ZERO;
 
 /// A scan, and then the count and the tally. A crate for what this has in common with `intake_edges` would be longer.
 fn show_scan(

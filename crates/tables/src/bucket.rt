@@ -46,6 +46,7 @@ pub fn assign(book: &Book) -> [usize; 1024]
 {
     array::from_fn(|i| {
         if i < book.len() {
+            // By its fields: through `PatternID::from` the check does not find the bucket.
             bucket_of(book, PatternID(SmallIndex(i as u32)))
         } else {
             0
