@@ -4,7 +4,7 @@ ghost use Rattle.pattern.specs.Closed.{book_of};
 ghost use Rattle.finder.specs.Plain.{searched};
 ghost use Rattle.std.proofs.Common.{rules};
 
-use crate::compare::verify;
+use crate::compare::stands;
 use crate::finder::Finder;
 use crate::plain::Plain;
 use pattern::book::Book;
@@ -17,8 +17,13 @@ fn find_here(book: &Book, text: &[u8], start: usize) -> Option<Match>
 {
     // the plain loop over the order table goes with its index by a rule of the project
     for (i, id) in book.order().iter().enumerate() {
-        if let Some(hit) = verify(book, *id, text, start) {
-            return Some(hit);
+        let pattern = book.get(*id);
+        if stands(pattern, text, start) {
+            return Some(Match {
+                pattern: *id,
+                start,
+                end: start + pattern.len(),
+            });
         }
     }
     None

@@ -70,7 +70,10 @@ impl Finder for RabinKarp {
     /// Tries place after place.
     fn find(&self, text: &[u8], at: usize) -> Option<Match> {
         let len = self.hash_len;
-        let mut hash = hash(text.get(at..)?.get(..len)?);
+        if at > text.len() || text.len() - at < len {
+            return None;
+        }
+        let mut hash = hash(&text[at..at + len]);
         for start in at..text.len() - len {
             if let Some(hit) = self.find_here(text, start, hash) {
                 return Some(hit);
