@@ -1,8 +1,7 @@
 -- The text at which a reader stands is the first of the job, where what is left to read is the texts.
-use Rattle.std.proofs.Common.{◌≡◌, ℕ, ◌≤◌, false, List, length, Ok, sym, refl, ap, ◌∙◌, arith}
+use Rattle.std.proofs.Common.{◌≡◌, ℕ, ◌≤◌, false, List, length, Ok, refl, ap, arith}
 use Rattle.std.proofs.lemmas.Grind.{common_steps}
 use Rattle.std.proofs.lemmas.Bool.Decides.{nat_tests}
-use Rattle.std.proofs.lemmas.Bool.{cond-false}
 use Rattle.rules.specs.declared.fault.Refusal.{Refusal}
 use Rattle.rules.specs.Book.{Book}
 use Rattle.job.specs.Format.{Step, over, bad, good, step}
@@ -12,7 +11,7 @@ use Rattle.job.proofs.Steps.{step_end}
 use Rattle.job.proofs.Readings.{reading_good, reading_bad, reading_over}
 use Rattle.host.specs.declared.searcher.Searcher.{Searcher}
 use Rattle.host.specs.Searchers.{misfits}
-use Rattle.host.specs.Outcomes.{text_in, leading, first_text, in_text, in_book, outcome}
+use Rattle.host.specs.Outcomes.{text_in, leading, in_text, outcome}
 
 -- a refusal is not past the end
 bad_within : (job : List ℕ) (at : ℕ) (r : Refusal) → step job at ≡ bad r → at ≤ length job
@@ -26,6 +25,5 @@ step_leads job at (good e next) h = ap (λ r. leading r.items) (reading_good job
 -- the search of a job whose book is b, where a reader stands at the first text
 pub outcome_is : (job held : List ℕ) (place : ℕ) (x : Searcher) (at : ℕ) (b : Book) → opened job ≡ Ok b → held ≡ job → reading job at ≡ texts (reading job 0) → misfits x b ≡ false → outcome job place x ≡ in_text b (text_in (step held at)) place
 outcome_is job held place x at b book same left fits =
-    ap (λ d. in_book d x (first_text job) place) book
-    ∙ cond-false (misfits x b) _ _ fits
-    ∙ ap (λ t. in_text b t place) (ap (λ r. leading r.items) (sym left) ∙ step_leads job at (step job at) refl ∙ ap (λ j. text_in (step j at)) (sym same))
+    let leads = step_leads job at (step job at) refl in
+    grind (arith, common_steps)
