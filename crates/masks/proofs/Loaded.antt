@@ -1,7 +1,6 @@
 -- What the vectors of a book's masks admit.
-use Rattle.std.proofs.Common.{◌≡◌, ℕ, ◌+◌, ◌*◌, ◌/◌, ◌%◌, ◌<◌, ◌⊎◌, ◌↔◌, List, ap, ◌∙◌, ⊎_elim, arith}
+use Rattle.std.proofs.Common.{◌≡◌, ℕ, ◌+◌, ◌*◌, ◌/◌, ◌%◌, ◌<◌, ◌⊎◌, List, ap, ◌∙◌, ⊎_elim, arith}
 use lib.Bits.{bit_and}
-use Rattle.bits.specs.Digits.{IsSet}
 use Rattle.rules.specs.Book.{Book}
 use Rattle.vector.specs.Lanes.{lane, loaded}
 use Rattle.vector.specs.Rows.{lane_row}

@@ -1,5 +1,6 @@
 -- Every place that is sought is a digit of its window's candidates.
-use Rattle.std.proofs.Common.{◌≡◌, ℕ, ◌+◌, ◌-◌, ◌*◌, ◌/◌, ◌%◌, ◌<◌, ◌≤◌, List, subst, arith}
+use Rattle.std.proofs.Common.{◌≡◌, ℕ, ◌+◌, ◌-◌, ◌*◌, ◌/◌, ◌%◌, ◌<◌, ◌≤◌, List, subst, ⊎_elim, arith}
+use Rattle.std.proofs.lemmas.Bool.{cases_lt}
 use Rattle.masks.specs.Places.{Candidate, Shows}
 use Rattle.teddy.proofs.Digits.{SetAt}
 
@@ -12,9 +13,13 @@ module _ (admits : ℕ → ℕ → ℕ → Type 0) (n c low at : ℕ) (text foun
       let digit-is : (x - 8 * base) % 8 ≡ x % 8 = omega arith in
       rw (lane-is, digit-is) ((shows (x / 8 - base) (x % 8) (x / 8) (omega arith) (omega arith) (omega arith)).1 (sought x good))
 
-  -- so where the digits of the window below d were tried in vain, nothing sought stands below d
-  pub clean_below : (d : ℕ) → d ≤ 8 * n → ((y : ℕ) → y < d → SetAt found y → Ok (8 * (at - (c - 1)) + y) → ⊥)
-      → (x : ℕ) → 8 * (at - (c - 1)) ≤ x → x < 8 * (at - (c - 1)) + d → Ok x → ⊥
-  clean_below d le tried x low high good =
+  -- so where the digits of the window below d were tried in vain, and what begins before it, nothing sought stands below d
+  pub clean_below : (from : ℕ) → ((x : ℕ) → from ≤ x → x < 8 * (at - (c - 1)) → Ok x → ⊥) → (d : ℕ) → d ≤ 8 * n → ((y : ℕ) → y < d → SetAt found y → Ok (8 * (at - (c - 1)) + y) → ⊥)
+      → (x : ℕ) → from ≤ x → x < 8 * (at - (c - 1)) + d → Ok x → ⊥
+  clean_below from before d le tried x low high good =
+      ⊎_elim
+      (λ (l : x < 8 * (at - (c - 1))). before x low l good)
+      (λ (r : 8 * (at - (c - 1)) ≤ x).
       let e : x ≡ 8 * (at - (c - 1)) + (x - 8 * (at - (c - 1))) = omega arith in
-      tried (x - 8 * (at - (c - 1))) (omega arith) (set_found x low (omega arith) good) (subst Ok e good)
+      tried (x - 8 * (at - (c - 1))) (omega arith) (set_found x r (omega arith) good) (subst Ok e good))
+      (cases_lt x (8 * (at - (c - 1))))

@@ -1,4 +1,4 @@
-use Rattle.std.proofs.Common.{◌≡◌, ℕ, ◌+◌, ◌%◌, ◌<◌, ◌≤◌, ap, ◌∙◌, ⊎_elim, rules, tests, arith}
+use Rattle.std.proofs.Common.{◌≡◌, ◌+◌, ◌%◌, ◌≤◌, ◌∙◌, ⊎_elim, rules, tests, arith}
 use Rattle.vector.specs.Lanes.{lane}
 use Rattle.vector.specs.Rows.{row_ext}
 use Rattle.tables.proofs.Filled.{filled_at}

@@ -90,7 +90,7 @@ windowed g c =
 window_below : (g : given.Over) (c : After-window-found g) (d : ℕ) → d ≤ 8 * g.V.Vector.count
     → ((y : ℕ) → y < d → SetAt (g.V.Vector.lanes c.window-found.result) y → Sits (book_in c.args.self.now.teddy.tables) c.args.text.now (key_in c.args.self.now.teddy.tables) (8 * (c.search.at - (c.masks-masks.result.count - 1)) + y) → ⊥)
     → (x : ℕ) → 8 * c.args.from ≤ x → x < 8 * (c.search.at - (c.masks-masks.result.count - 1)) + d → Sits (book_in c.args.self.now.teddy.tables) c.args.text.now (key_in c.args.self.now.teddy.tables) x → ⊥
-window_below g c d le below x lo hi =
+window_below g c d =
     let inv = c.search.invariant in
     let h = c.args.self.now.teddy in
     let t = h.tables in
@@ -98,14 +98,9 @@ window_below g c d le below x lo hi =
     let m = c.masks-masks.result.count in
     let text = c.args.text.now in
     let low = inv.seen.0 in
-    ⊎_elim
-    (λ (l : x < 8 * (c.search.at - (m - 1))). inv.clean x lo l)
-    (λ (r : 8 * (c.search.at - (m - 1)) ≤ x).
-    clean_below admits g.V.Vector.count m low c.search.at text (g.V.Vector.lanes c.window-found.result) (Sits (book_in t) text (key_in t))
-    (omega (arith, inv.low)) (windowed g c).0
+    clean_below admits g.V.Vector.count m low c.search.at text (g.V.Vector.lanes c.window-found.result) (Sits (book_in t) text (key_in t)) (omega (arith, inv.low)) (windowed g c).0
     (λ y good. subst (λ b. Candidate admits m low text (y / 8) b) good.2 (candidate_of (shared t.rabinkarp) text m low good.0 (y / 8) (omega (arith, h.few, c.masks-masks.ensures.count)) good.1))
-    d le below x r hi)
-    (cases_lt x (8 * (c.search.at - (m - 1))))
+    (8 * c.args.from) inv.clean d
 
 -- all digits of a window were tried in vain
 clean : (g : given.Over) (c : Joined-not-is_zero g) (y : ℕ) → y < 8 * g.V.Vector.count → SetAt (g.V.Vector.lanes c.window-found.result) y

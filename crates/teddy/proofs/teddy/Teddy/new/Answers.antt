@@ -1,13 +1,8 @@
-use Rattle.std.proofs.Common.{◌≡◌, ℕ, ◌<◌, ◌∙◌, subst, arith}
+use Rattle.std.proofs.Common.{◌≡◌, arith}
 use Rattle.pattern.specs.declared.book.Book.{Book as Closed}
-use Rattle.pattern.specs.Closed.{book_of, order_in}
+use Rattle.pattern.specs.Closed.{book_of}
 use Rattle.rabinkarp.specs.Searched.{shared}
 use Rattle.pattern.proofs.Shortest.{shortest_pos}
-use Rattle.buckets.specs.Buckets.{members, in_bucket}
-use Rattle.tables.specs.declared.mask.MaskTable.{MaskTable}
-use Rattle.tables.specs.Masks.{low_mask, high_mask}
-use Rattle.teddy.specs.Held.{nearest}
-use Rattle.teddy.proofs.Hits.{key_of}
 use Rattle.teddy.proofs.Made.{mask_is, placed_is}
 use Rattle.teddy.proofs.teddy.Teddy.new.Goals as goal
 
