@@ -11,6 +11,14 @@ impl<V: Vector> Masks<V> {
     pub fn window(&self, text: &[u8], at: usize, seen: &mut Seen<V>) -> V
         ensures { Exact V.count V.lanes self.now at text.now seen.old result seen.new }
     {
+        self.loaded_window(text, at, seen)
+    }
+
+    // Beside `window`, since it is proved by hand: an edit of the public function is to be refused at its own line.
+    /// Loads the window, and asks for its candidates.
+    fn loaded_window(&self, text: &[u8], at: usize, seen: &mut Seen<V>) -> V
+        ensures { Exact V.count V.lanes self.now at text.now seen.old result seen.new }
+    {
         self.candidate(V::load(text, at), seen)
     }
 }

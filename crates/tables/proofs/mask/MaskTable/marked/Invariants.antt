@@ -2,7 +2,7 @@ use Rattle.std.proofs.Common.{ℕ, ◌/◌, ◌%◌, get_or, take}
 use Rattle.pattern.specs.Closed.{book_of, order_in}
 use Rattle.tables.specs.Masks.{byte_of}
 use Rattle.tables.proofs.Marking.{Marked}
-use Rattle.tables.proofs.mask.MaskTable.new.Given as goal
+use Rattle.tables.proofs.mask.MaskTable.marked.Given as goal
 
 abbrev pub invariant-loop-id : goal.invariant-loop-id
 invariant-loop-id l =

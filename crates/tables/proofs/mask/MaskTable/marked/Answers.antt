@@ -10,8 +10,8 @@ use Rattle.finder.proofs.Choosing.{read}
 use Rattle.vector.specs.Lanes.{lane}
 use Rattle.tables.specs.Masks.{byte_of}
 use Rattle.tables.proofs.Marking.{marked_more, marked_all}
-use Rattle.tables.proofs.mask.MaskTable.new.Goals as goal
-use Rattle.tables.proofs.mask.MaskTable.new.Goals.{After-as_usize}
+use Rattle.tables.proofs.mask.MaskTable.marked.Goals as goal
+use Rattle.tables.proofs.mask.MaskTable.marked.Goals.{After-as_usize}
 
 known : (c : After-as_usize) → c.as_usize.result < 1024
 known c =

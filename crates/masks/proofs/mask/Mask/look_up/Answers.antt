@@ -1,6 +1,6 @@
 use Rattle.std.proofs.Common.{rules}
 use Rattle.masks.proofs.LookUps.{looked_up}
-use Rattle.masks.proofs.mask.Mask.members1.Goals as goal
+use Rattle.masks.proofs.mask.Mask.look_up.Goals as goal
 
 pub returns : goal.returns
 returns g c =

@@ -5,7 +5,7 @@ use Rattle.masks.specs.Candidates.{kept}
 use Rattle.masks.specs.Places.{Shows, Recalls}
 use Rattle.masks.proofs.Exact.{Sees, newer, shows, recalls}
 use Rattle.masks.proofs.Loaded.{sees}
-use Rattle.masks.proofs.candidate.Masks.window.Goals as goal
+use Rattle.masks.proofs.candidate.Masks.loaded_window.Goals as goal
 
 pub returns : goal.returns
 returns g c b ids key low of le saw =
