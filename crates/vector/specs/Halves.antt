@@ -1,10 +1,10 @@
 -- Two halves side by side: what an operation on each gives of both.
-use Rattle.std.specs.Prelude.{◌≡◌, ℕ, zero, suc, ◌+◌, ◌-◌, ◌*◌, ◌/◌, ◌^◌, ◌<◌, ◌≤◌, min, cond, List, ◌++◌, length, nat_lt, refl}
+use Rattle.std.specs.Prelude.{◌≡◌, ℕ, zero, suc, ◌+◌, ◌-◌, ◌*◌, ◌/◌, ◌^◌, ◌<◌, ◌≤◌, min, cond, List, ◌++◌, length, nat_lt, ◌==◌, bit_and, bit_or, refl}
 use Rattle.std.proofs.Common.{sym, ap, ◌∙◌, ⊎_elim, arith, add_assoc}
 use Rattle.std.proofs.lemmas.List.{length-append, get_or_append_left, get_or-append_right, get_or_past}
 use Rattle.std.proofs.lemmas.Bool.{cases_lt}
 use Rattle.std.proofs.lemmas.Bool.Decides.{nat_tests}
-use Rattle.vector.specs.Lanes.{lane, row, splatted, loaded, shifted_in, shuffled, number}
+use Rattle.vector.specs.Lanes.{lane, row, splatted, loaded, anded, ored, compared, shifted_right_4, shifted_in, shuffled, number, lane64}
 use Rattle.vector.specs.Rows.{length-row, lane_row, row_is}
 
 -- a row of 32 from two of 16
@@ -42,11 +42,20 @@ bytes_join a b e p q i =
 -- the halves a, b of one vector and c, d of another
 module _ (a b c d : List ℕ) (la : length a ≡ 16) (lc : length c ≡ 16) where
   -- an operation that works lane by lane
-  pub lanewise_join : (op : ℕ → ℕ → ℕ) → row 16 (λ i. op (lane a i) (lane c i)) ++ row 16 (λ i. op (lane b i) (lane d i)) ≡ row 32 (λ i. op (lane (a ++ b) i) (lane (c ++ d) i))
+  lanewise_join : (op : ℕ → ℕ → ℕ) → row 16 (λ i. op (lane a i) (lane c i)) ++ row 16 (λ i. op (lane b i) (lane d i)) ≡ row 32 (λ i. op (lane (a ++ b) i) (lane (c ++ d) i))
   lanewise_join op =
       row_join (λ i. op (lane (a ++ b) i) (lane (c ++ d) i)) (λ i. op (lane a i) (lane c i)) (λ i. op (lane b i) (lane d i))
       (λ i h. rw (lane_low a b la i h, lane_low c d lc i h))
       (λ i h. rw (lane_high a b la i, lane_high c d lc i))
+
+  pub anded_join : anded 16 a c ++ anded 16 b d ≡ anded 32 (a ++ b) (c ++ d)
+  anded_join = lanewise_join bit_and
+
+  pub ored_join : ored 16 a c ++ ored 16 b d ≡ ored 32 (a ++ b) (c ++ d)
+  ored_join = lanewise_join bit_or
+
+  pub compared_join : compared 16 a c ++ compared 16 b d ≡ compared 32 (a ++ b) (c ++ d)
+  compared_join = lanewise_join (λ x y. cond (x == y) 255 0)
 
   pub shifted_in_join : (k : ℕ) → k ≤ 16 → shifted_in k 16 a d ++ shifted_in k 16 b a ≡ shifted_in k 32 (a ++ b) (c ++ d)
   shifted_in_join k le = row_join _ _ _ low high
@@ -94,6 +103,9 @@ module _ (a b c d : List ℕ) (la : length a ≡ 16) (lc : length c ≡ 16) wher
           let p = lane_high a b la (i / 16 * 16 + j) in
           rw (e, p))
 
+pub shifted_right_4_join : (a b : List ℕ) → length a ≡ 16 → shifted_right_4 16 a ++ shifted_right_4 16 b ≡ shifted_right_4 32 (a ++ b)
+shifted_right_4_join a b la = lanewise_join a b a b la la (λ x _. x / 16)
+
 -- ---- the number that eight lanes make
 pub number_low : (a b : List ℕ) (n p : ℕ) → p + n ≤ length a → number n (a ++ b) p ≡ number n a p
 unfolding number
@@ -118,3 +130,12 @@ loaded_join s p q few e = row_join _ _ _ (λ i h. refl) high
 
 pub splatted_join : (b : ℕ) → splatted 16 b ++ splatted 16 b ≡ splatted 32 b
 splatted_join b = row_join _ _ _ (λ i h. refl) (λ i h. refl)
+
+-- ---- the 64-bit lanes
+pub lane64_low : (a b : List ℕ) → length a ≡ 16 → (k : ℕ) → k < 2 → lane64 (a ++ b) k ≡ lane64 a k
+lane64_low a b e k h = number_low a b 8 (8 * k) (omega arith)
+
+pub lane64_high : (a b : List ℕ) → length a ≡ 16 → (k : ℕ) → 2 ≤ k → lane64 (a ++ b) k ≡ lane64 b (k - 2)
+lane64_high a b e k h =
+    let m : 8 * k ≡ 16 + 8 * (k - 2) = omega arith in
+    rw m (number_high a b e 8 (8 * (k - 2)))

@@ -1,7 +1,0 @@
-use Rattle.vector.specs.Halves.{shifted_in_join}
-use Rattle.vector.proofs.double.shift_in.Goals as goal
-
-pub returns : goal.returns
-returns g c =
-    let long = g.met.H.Half.sixteen in
-    rw (c.shift_in.ensures, c.shift_in-2.ensures) (shifted_in_join _ _ _ _ (long c.args.a.low) (long c.args.b.low) c.args.count c.requires)
