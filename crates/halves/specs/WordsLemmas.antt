@@ -1,17 +1,20 @@
 -- Two words as sixteen lanes, and what operations on whole words do to the lanes.
-use Rattle.std.specs.Prelude.{◌≡◌, ℕ, zero, suc, ◌+◌, ◌*◌, ◌/◌, ◌%◌, ◌^◌, ◌<◌, ◌≤◌, true, false, cond, ltb, List, length, ◌==◌, bit_and, bit_or, nat_eq, nat_lt, refl}
+use Rattle.std.specs.Prelude.{◌≡◌, ℕ, zero, suc, ◌+◌, ◌*◌, ◌/◌, ◌%◌, ◌^◌, ◌<◌, ◌≤◌, true, false, ◌&&◌, cond, ltb, List, length, ◌==◌, bit_and, bit_or, nat_eq, nat_lt, refl}
 use Rattle.std.proofs.Common.{sym, ap, ◌∙◌, ⊎_elim, arith, add_comm}
 use Rattle.std.proofs.Math.Nat.{zero-div}
-use Rattle.std.proofs.lemmas.Nat.{shr-shr, and_shr, and_mod, or_shr, or_mod, and_mask}
+use Rattle.std.proofs.lemmas.Nat.{and_le_l, and_le_r, shr-shr, and_shr, and_mod, or_shr, or_mod, and_mask}
 use Rattle.std.proofs.lemmas.List.{get_or_past}
 use Rattle.std.proofs.lemmas.Bool.{cases_lt, cases_Bool}
 use Rattle.std.proofs.lemmas.Bool.Decides.{nat_tests}
-use Rattle.vector.specs.Lanes.{lane, row, splatted, number, all_zero, byte_at}
+use Rattle.vector.specs.Lanes.{lane, row, splatted, anded, ored, shifted_right_4, number, lane64, all_zero, byte_at}
 use Rattle.halves.specs.Words.{word_lanes}
 use Rattle.vector.specs.Rows.{length-row, lane_row, row_is, row_ext}
-use Rattle.vector.proofs.Numbers.{zero_from, zero_to}
+use Rattle.vector.proofs.Numbers.{zero_from, zero_to, number_past}
 use Rattle.vector.proofs.Words.{by_eight, number_of_bytes, byte_of_number}
-use Rattle.halves.specs.Loops.{or_is_zero}
+use Rattle.std.specs.Int.Bits.{or_add_and}
+
+pub or_is_zero : (a b : ℕ) → (bit_or a b == 0) ≡ (a == 0) && b == 0
+or_is_zero a b = let s = or_add_and a b in let l = and_le_l a b in let r = and_le_r a b in grind (arith, nat_tests)
 
 pub byte_and : (a b j : ℕ) → byte_at (bit_and a b) j ≡ bit_and (byte_at a j) (byte_at b j)
 byte_and a b j = rw (and_shr a b (8 * j)) (and_mod (a / 2 ^ (8 * j)) (b / 2 ^ (8 * j)) 8)
@@ -52,6 +55,15 @@ byte_halved w j h =
     let ones : byte_at 0x0f0f_0f0f_0f0f_0f0f j ≡ 15 = by_eight (λ k. byte_at 0x0f0f_0f0f_0f0f_0f0f k ≡ 15) refl refl refl refl refl refl refl refl j h in
     let swapped : w / 16 / 2 ^ (8 * j) ≡ w / 2 ^ (8 * j) / 16 = shr-shr w 4 (8 * j) ∙ ap (λ k. w / 2 ^ k) (add_comm 4 (8 * j)) ∙ sym (shr-shr w (8 * j) 4) in
     byte_and (w / 16) 0x0f0f_0f0f_0f0f_0f0f j ∙ ap (bit_and (byte_at (w / 16) j)) ones ∙ and_mask (byte_at (w / 16) j) 4 ∙ rw swapped (omega arith)
+
+pub words_and : (a b c d : ℕ) → word_lanes (bit_and a c) (bit_and b d) ≡ anded 16 (word_lanes a b) (word_lanes c d)
+words_and = words_op bit_and byte_and
+
+pub words_or : (a b c d : ℕ) → word_lanes (bit_or a c) (bit_or b d) ≡ ored 16 (word_lanes a b) (word_lanes c d)
+words_or = words_op bit_or byte_or
+
+pub words_shift : (a b : ℕ) → word_lanes (bit_and (a / 16) 0x0f0f_0f0f_0f0f_0f0f) (bit_and (b / 16) 0x0f0f_0f0f_0f0f_0f0f) ≡ shifted_right_4 16 (word_lanes a b)
+words_shift a b = words_map (λ w. bit_and (w / 16) 0x0f0f_0f0f_0f0f_0f0f) (λ x. x / 16) a b byte_halved
 
 same_bytes : (b : ℕ) → b < 256 → (i : ℕ) → lane (splatted 8 b) i < 256
 same_bytes b lt i =
@@ -116,6 +128,15 @@ words_high low high lt =
     let t : ltb (8 + j) 8 ≡ false = grind (arith, nat_tests) in
     let l : 8 + j < 16 = omega arith in
     rw (lane_of low high (8 + j) l, t, m))
+
+pub words_64_low : (low high k : ℕ) → low < 2 ^ 64 → k ≡ 0 → lane64 (word_lanes low high) k ≡ low
+words_64_low low high k l e = let m : 8 * k ≡ 0 = omega arith in rw m (words_low low high l)
+
+pub words_64_high : (low high k : ℕ) → high < 2 ^ 64 → k ≡ 1 → lane64 (word_lanes low high) k ≡ high
+words_64_high low high k h e = let m : 8 * k ≡ 8 = omega arith in rw m (words_high low high h)
+
+pub words_64_past : (low high k : ℕ) → 2 ≤ k → lane64 (word_lanes low high) k ≡ 0
+words_64_past low high k h = number_past 8 (word_lanes low high) (8 * k) (omega (arith, words_long low high))
 
 -- ---- all lanes 0
 number-zero : (n : ℕ) (xs : List ℕ) (p : ℕ) → ((i : ℕ) → lane xs i ≡ 0) → number n xs p ≡ 0

@@ -3,5 +3,4 @@
 #![tactic(auto)]
 
 pub mod array;
-mod bytes;
 pub mod word;

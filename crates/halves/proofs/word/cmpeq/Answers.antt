@@ -1,5 +1,0 @@
-use Rattle.std.proofs.Common.{◌∙◌}
-use Rattle.halves.proofs.word.cmpeq.Goals as goal
-
-pub returns : goal.returns
-returns c = c.pack.ensures ∙ rw (c.unpack.ensures, c.unpack-2.ensures) at c.cmpeq.ensures

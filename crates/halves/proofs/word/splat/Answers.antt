@@ -1,5 +1,0 @@
-use Rattle.halves.specs.WordsLemmas.{words_splat}
-use Rattle.halves.proofs.word.splat.Goals as goal
-
-pub returns : goal.returns
-returns c = rw c.from-word.ensures (words_splat c.args.byte c.ranges.byte.fits)
