@@ -45,7 +45,8 @@ impl<F: Finder> Iterator for Hits<'_, F> {
     }
 }
 
-// Writes a text's listing to the front of a list that has the room.
+// Writes a text's listing to the front of a list that has the room. By `zip` with `iter_mut` nothing is known of the list
+// after the loop.
 fn write_hits<F: Finder>(finder: &F, text: &[u8], hits: &mut [Match])
     requires { length (listing (F.book finder.now) text.now) ≤ length hits.old }
     ensures { hits.new ≡ listing (F.book finder.now) text.now ++ drop (length (listing (F.book finder.now) text.now)) hits.old }

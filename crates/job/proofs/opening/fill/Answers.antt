@@ -1,4 +1,4 @@
-use Rattle.std.proofs.Common.{◌≡◌, length, Err, sym, ap, ◌∙◌, subst, inr}
+use Rattle.std.proofs.Common.{◌≡◌, length, Err, sym, ap, ◌∙◌, subst, inr, arith}
 use Rattle.std.proofs.lemmas.Result.{err_from_is_err_and}
 use Rattle.pattern.specs.Contents.{empty}
 use Rattle.pattern.specs.Entering.{open_of, refused}
@@ -39,6 +39,11 @@ returns-in-Text c =
     let job = c.args.job.now in
     subst (λ n. (opening empty (reading job 0) (length job) ≡ closes b n) × (reading job n ≡ texts (reading job 0))) (sym (there a))
     (fill_text job b at i.2 i.3 c.in-Text.field-0.now c.next.new.self.at (stepped a ∙ ap (λ r. good (entry r) c.next.new.self.at) c.in-Text.is))
+
+pub loop-patterns-smaller : goal.loop-patterns-smaller
+loop-patterns-smaller c =
+    let far = step_next c.args.job.now c.loop-patterns.reader.at c.next.new.self.at _ (stepped (goal.at.loop-patterns-smaller c).In-Some) in
+    omega (arith, far.0, far.1)
 
 pub loop-patterns-preserved : goal.loop-patterns-preserved
 loop-patterns-preserved c =
