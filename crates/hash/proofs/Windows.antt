@@ -26,6 +26,9 @@ folded_from h (x ∷ xs) =
 pub folded : (xs : List ℕ) → fold step 0 xs ≡ hash_of xs
 folded xs = folded_from 0 xs ∙ ap (λ n. n % 2 ^ 64) (let e : 0 * 2 ^ length xs + weighed xs ≡ weighed xs = omega arith in e)
 
+pub hashed : (n : ℕ) (xs : List ℕ) → n ≡ fold step 0 xs → n ≡ hash_of xs
+hashed n xs e = e ∙ folded xs
+
 -- a byte more in the hash of bytes
 hash-push : (xs : List ℕ) (b : ℕ) → step (hash_of xs) b ≡ hash_of (xs ++ b ∷ [])
 hash-push xs b = ap (λ h. step h b) (sym (folded xs)) ∙ (sym (fold_push step 0 xs b) ∙ folded (xs ++ b ∷ []))

@@ -13,6 +13,7 @@ fn push(hash: usize, byte: u8) -> usize
 }
 
 /// The hash of some bytes.
+#[tactic(auto, using(crate::proofs::Windows::hashed))]
 pub fn hash(bytes: &[u8]) -> usize
     ensures { result ≡ hash_of bytes.now }
 {

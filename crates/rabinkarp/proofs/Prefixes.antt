@@ -1,12 +1,16 @@
--- The hash of a pattern that stands in a text.
-use Rattle.std.proofs.Common.{◌≡◌, ℕ, ◌+◌, ◌<◌, List, length, take, drop, sym, ap, ◌∙◌}
-use Rattle.std.proofs.lemmas.List.{take-append-le}
+-- The first bytes of a pattern, and their hash where it stands in a text.
+use Rattle.std.proofs.Common.{◌≡◌, ℕ, ◌+◌, ◌<◌, List, length, take, drop, sym, ap, ◌∙◌, arith}
+use Rattle.std.proofs.lemmas.List.{length-take-le, take-append-le}
 use Rattle.std.proofs.lemmas.List.Prefix.{at_from_reads}
 use Rattle.rules.specs.Book.{Book, count_of, pattern, shortest}
 use Rattle.rules.specs.Search.{Stands}
 use Rattle.pattern.proofs.Shortest.{shortest_le}
 use Rattle.hash.specs.Hash.{hash_of, window}
 use Rattle.rabinkarp.specs.Prefixes.{prefix_hash}
+
+-- a pattern has as many bytes as the shortest has
+pub front_long : (b : Book) (i n : ℕ) (p : List ℕ) → i < count_of b → p ≡ pattern b i → n ≡ shortest b → n ≡ length (take n p)
+front_long b i n p known is e = sym (length-take-le n p (omega (arith, e, ap length is, shortest_le b i known)))
 
 -- a pattern that stands at a place has the hash of the window there
 pub standing_hash : (b : Book) (t : List ℕ) (i s : ℕ) → i < count_of b → Stands (pattern b i) t s → prefix_hash b i ≡ hash_of (window t (shortest b) s)

@@ -28,6 +28,13 @@ impl<F: Finder> Intake<F> {
         ensures value { result ≡ placed 0 (tally_in (model F.book self.now) id.0.0) }
         ensures served { ServesCall F.book self.now (ask_tally id.0.0) (told_tally (told result)) self.now }
     {
+        self.tally_of(id)
+    }
+
+    // Beside `tally`, whose law is proved by hand: an edit is to be refused at its own line.
+    fn tally_of(&self, id: PatternID) -> Result<u32, Fault>
+        ensures { result ≡ placed 0 (tally_in (model F.book self.now) id.0.0) }
+    {
         if id.as_usize() >= self.finder.pattern_count() {
             return Err(Refusal::UnknownPattern.at(0));
         }

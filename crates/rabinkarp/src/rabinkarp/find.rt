@@ -1,5 +1,6 @@
-ghost use Rattle.std.specs.Prelude.{◌≡◌};
-ghost use Rattle.rules.specs.Book.{shortest};
+ghost use Rattle.std.specs.Prelude.{◌≡◌, MatchOption};
+ghost use Rattle.rules.specs.Book.{pattern, shortest};
+ghost use Rattle.rules.specs.Search.{Stands, hit};
 ghost use Rattle.rules.specs.Places.{AnswersAt};
 ghost use Rattle.pattern.specs.Closed.{book_of};
 ghost use Rattle.hash.specs.Hash.{hash_of, window};
@@ -13,7 +14,7 @@ use finder::compare::verify;
 use finder::finder::Finder;
 use hash::{hash, hash_2pow, update_hash};
 use pattern::book::Book;
-use rules::primitives::Match;
+use rules::primitives::{Match, PatternID};
 use std::rc::Rc;
 
 impl RabinKarp {
@@ -41,6 +42,13 @@ impl RabinKarp {
         &self.book
     }
 
+    /// The match of a pattern at a place, if its bytes stand there.
+    fn verify(&self, id: PatternID, text: &[u8], start: usize) -> Option<Match>
+        ensures { MatchOption result (Stands (pattern (searched self.now) id.0.0) text.now start → ⊥) (λ m. Stands (pattern (searched self.now) id.0.0) text.now start × (m ≡ hit (searched self.now) id.0.0 start)) }
+    {
+        verify(&self.book, id, text, start)
+    }
+
     /// The pattern that is found at one place, where the text's next bytes have a hash: the first of its bucket that stands
     /// there.
     fn find_here(&self, text: &[u8], start: usize, hash: usize) -> Option<Match>
@@ -49,7 +57,7 @@ impl RabinKarp {
     {
         for id in self.buckets.bucket(hash) {
             if self.hashes[id.as_usize()] == hash {
-                if let Some(hit) = verify(&self.book, *id, text, start) {
+                if let Some(hit) = self.verify(*id, text, start) {
                     return Some(hit);
                 }
             }

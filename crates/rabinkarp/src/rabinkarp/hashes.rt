@@ -5,15 +5,24 @@ ghost use Rattle.rabinkarp.specs.Prefixes.{prefix_hash};
 
 use hash::hash;
 use pattern::book::Book;
+use rules::primitives::PatternID;
+
+/// The hash of a pattern's first bytes, as many as the shortest pattern has.
+fn front_hash(book: &Book, id: PatternID) -> usize
+    requires { id.0.0 < count_of (book_of book.now) }
+    ensures { result ≡ prefix_hash (book_of book.now) id.0.0 }
+{
+    let front = &book.get(id)[..book.minimum_len()];
+    hash(front)
+}
 
 /// The hash of each pattern's first bytes, as many as the shortest pattern has, at its id.
 pub(crate) fn hashes(book: &Book) -> [usize; 1024]
     ensures { (i : ℕ) → i < count_of (book_of book.now) → slice_index result i ≡ prefix_hash (book_of book.now) i }
 {
-    let len = book.minimum_len();
     let mut hashes = [0; 1024];
     for id in book.order() {
-        hashes[id.as_usize()] = hash(&book.get(*id)[..len]);
+        hashes[id.as_usize()] = front_hash(book, *id);
     }
     hashes
 }

@@ -23,7 +23,7 @@ bounds-self-as_usize c = omega (arith, c.as_usize.ensures, small (goal.at.bounds
 pub returns-in-Some : goal.returns-in-Some
 returns-in-Some c =
     let o = opened (goal.at.returns-in-Some c).After-bucket-id-items in
-    let e = rw c.deref.ensures at c.in-Some.ensures in
+    let e = c.in-Some.ensures in
     chosen (tried o) c.bucket-id-items.result.now (names o) c.loop-id.id-index c.loop-id-test.true e.0 c.loop-id.invariant c.in-Some.hit e.1
 
 pub loop-id-preserved : goal.loop-id-preserved
@@ -34,7 +34,7 @@ loop-id-preserved c =
     below_more _ _ c.loop-id.invariant (λ st.
     let here = subst (λ k. Stands (pattern (searched x) k) c.args.text.now c.args.start) (sym (read c.bucket-id-items.result.now (ids_of x c.args.hash) i (names o))) st in
     elim c.if-self-as_usize.branch [
-      | then-self-as_usize+in_default w ↦ (rw w.deref.ensures at w.in_default.ensures) here
+      | then-self-as_usize+in_default w ↦ w.in_default.ensures here
       | else-self-as_usize w ↦ w.if-self-as_usize.false (ap (λ k. get_or x.hashes k 0) c.as_usize.ensures ∙ proposed o i c.loop-id-test.true here)
     ])
 

@@ -23,11 +23,8 @@ known c =
     let o = (goal.at.In-loop-id c).After-order-id-items in
     omega (arith, read c.order-id-items.result.now (order_in c.args.book.now) c.loop-id.id-index c.order-id-items.ensures.same, (order o).known c.loop-id.id-index (omega (arith, long o, c.loop-id-test.true)))
 
-pub slice_bounds-hash-end : goal.slice_bounds-hash-end
-slice_bounds-hash-end c =
-    let b = book_of c.args.book.now in
-    let i = number (get_or c.order-id-items.result.now c.loop-id.id-index (id 0)) in
-    sym (length-take-le c.minimum_len-len.result c.get.result.now (omega (arith, c.minimum_len-len.ensures, shortest_le b i (known (goal.at.slice_bounds-hash-end c).In-loop-id), ap length c.get.ensures)))
+pub front_hash-requires : goal.front_hash-requires
+front_hash-requires c = known (goal.at.front_hash-requires c).In-loop-id
 
 pub offset_bounds-hashes-as_usize : goal.offset_bounds-hashes-as_usize
 offset_bounds-hashes-as_usize c = omega (arith, known (goal.at.offset_bounds-hashes-as_usize c).In-loop-id, c.args.book.now.few)
@@ -43,16 +40,15 @@ loop-id-preserved c =
     let k = c.loop-id.id-index in
     let v = c.as_usize.result in
     let is : v ≡ get_or ids k 0 = c.as_usize.ensures ∙ read c.order-id-items.result.now ids k c.order-id-items.ensures.same in
-    let value : c.hash.result ≡ prefix_hash b v =
-    c.hash.ensures ∙ (ap (λ n. hash_of (take n c.get.result.now)) c.minimum_len-len.ensures ∙ ap (λ q. hash_of (take (shortest b) q)) (c.get.ensures ∙ ap (pattern b) (sym c.as_usize.ensures))) in
+    let value : c.front_hash.result ≡ prefix_hash b v = c.front_hash.ensures ∙ ap (prefix_hash b) (sym c.as_usize.ensures) in
     let small : v < 1024 = omega (arith, known (goal.at.loop-id-preserved c).In-loop-id, c.args.book.now.few) in
     record {
-      long = length-set hs v c.hash.result ∙ c.loop-id.invariant.long;
+      long = length-set hs v c.front_hash.result ∙ c.loop-id.invariant.long;
       hashed = λ j l. elim (cases_eq (get_or ids j 0) v) [
-        | inl e ↦ subst (λ n. get_or (set hs v c.hash.result) n 0 ≡ prefix_hash b n) (sym e) (get_or-set_same hs v c.hash.result 0 (omega (arith, c.loop-id.invariant.long)) ∙ value)
+        | inl e ↦ subst (λ n. get_or (set hs v c.front_hash.result) n 0 ≡ prefix_hash b n) (sym e) (get_or-set_same hs v c.front_hash.result 0 (omega (arith, c.loop-id.invariant.long)) ∙ value)
         | inr ne ↦ elim (cases_eq j k) [
           | inl e ↦ absurd (ne (ap (λ n. get_or ids n 0) e ∙ sym is))
-          | inr nk ↦ get_or-set_other hs v (get_or ids j 0) c.hash.result 0 ne ∙ c.loop-id.invariant.hashed j (omega (arith, nk))
+          | inr nk ↦ get_or-set_other hs v (get_or ids j 0) c.front_hash.result 0 ne ∙ c.loop-id.invariant.hashed j (omega (arith, nk))
         ]
       ];
     }

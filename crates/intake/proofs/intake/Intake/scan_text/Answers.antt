@@ -8,9 +8,9 @@ use Rattle.rules.proofs.Listings.{rest_short}
 use Rattle.intake.specs.Intakes.{model}
 use Rattle.intake.proofs.Histories.{served_scan}
 use Rattle.intake.proofs.Scans.{Accepted, accepted_at, hits_front, listing_ids}
-use Rattle.intake.proofs.intake.Intake.scan_at.Given as given
-use Rattle.intake.proofs.intake.Intake.scan_at.Goals as goal
-use Rattle.intake.proofs.intake.Intake.scan_at.Goals.{After-write_hits}
+use Rattle.intake.proofs.intake.Intake.scan_text.Given as given
+use Rattle.intake.proofs.intake.Intake.scan_text.Goals as goal
+use Rattle.intake.proofs.intake.Intake.scan_text.Goals.{After-write_hits}
 
 module _ (g : given.Over) (c : After-write_hits g) where
   abbrev b : Book
