@@ -7,7 +7,7 @@ use Rattle.rules.specs.Book.{count_of, Preferred}
 use Rattle.pattern.specs.declared.book.Book.{Book}
 use Rattle.pattern.specs.Order.{ReadingOrder}
 use Rattle.pattern.specs.Closed.{book_of, order_in}
-use Rattle.pattern.proofs.Trying.{reading_order}
+use Rattle.pattern.proofs.Trying as trying
 use Rattle.buckets.specs.Buckets.{in_bucket}
 
 -- what a filter keeps is in the order of the whole
@@ -58,14 +58,7 @@ same_kept f g k (x ∷ xs) h =
 
 -- the order of a closed book
 pub ordered : (b : Book) → ReadingOrder (book_of b) (order_in b)
-ordered b = reading_order b.table record {
-  summed = b.summed;
-  least = b.least;
-  ordered = record { long = b.long; known = b.known; once = b.once; falling = b.falling; rising = b.rising };
-  listed = b.listed;
-  rises = b.rises;
-  within = record { some = b.some; few = b.few; short = b.short };
-}
+ordered b = trying.ordered b _ refl
 
 module _ (b : Book) (key : ℕ → ℕ) (k : ℕ) where
   pub bucket_known : (i : ℕ) → i < length (in_bucket key (order_in b) k) → get_or (in_bucket key (order_in b) k) i 0 < count_of (book_of b)

@@ -5,7 +5,7 @@ ghost use Rattle.job.specs.Reading.{told, placed, entry, entries};
 use crate::record::{Placed, Record};
 use rules::fault::{Fault, Refusal};
 
-/// A job and the place of the next record.
+/// A job and the place of the next record, which a fault names.
 #[derive(Drop)]
 pub struct Reader<'a> {
     pub job: &'a [u8],
@@ -20,7 +20,7 @@ impl<'a> Reader<'a> {
         Reader { job, at: 0 }
     }
 
-    /// The next record, or none at the end. A fault leaves the reader where it is.
+    /// The next record, or none at the end. A fault leaves the reader where it is, so that as an iterator it would not end.
     pub fn next(&mut self) -> Result<Option<Placed<'a>>, Fault>
         ensures step { told result self.new.at ≡ step self.old.job.now self.old.at }
         ensures place { placed result self.old.at ≡ self.old.at }

@@ -52,7 +52,7 @@ impl Table {
         Ok(id)
     }
 
-    /// The bytes of a pattern; none for an id that is not in.
+    /// The bytes of a pattern; none for an id that is not in. `Book::get` lends them too, but `enter` has no book.
     pub(crate) fn pattern(&self, id: PatternID) -> &[u8]
         ensures { result.now ≡ pattern (contents self.now) id.0.0 }
     {

@@ -79,6 +79,7 @@ pub struct Fault {
     pub place: usize,
 }
 
+// Two impls with one body, since `?` meets both errors.
 impl From<AllocError> for Fault {
     ghost from_gives = { λ _ r. r ≡ record { refusal = Memory; place = 0 } };
 

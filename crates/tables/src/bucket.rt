@@ -40,7 +40,8 @@ fn bucket_of(book: &Book, id: PatternID) -> usize
     7 - leader_of(book, book.get(id)) % 8
 }
 
-/// The bucket of each pattern, at its id; 0 at an index that is no id.
+/// The bucket of each pattern, at its id; 0 at an index that is no id. The table has a fixed size, so that making it cannot
+/// refuse.
 pub fn assign(book: &Book) -> [usize; 1024]
     ensures { (i : ℕ) → slice_index result i ≡ (if nat_lt i (count_of (book_of book.now)) then bucket_of (book_of book.now) (order_in book.now) i else 0) }
 {

@@ -27,7 +27,7 @@ impl Patterns {
         }
     }
 
-    /// Enters a pattern, and answers its id.
+    /// Enters a pattern, and answers its id: at the place 0, for callers without a job.
     pub fn add(&mut self, bytes: &[u8]) -> Result<PatternID, Fault>
         ensures { Enters (open_of self.old) 0 bytes.now result (open_of self.new) }
     {
@@ -65,7 +65,8 @@ impl Patterns {
         self.book.minimum_len()
     }
 
-    /// Whether the book may be closed and searched with `masks` masks. After an `Ok` neither refuses.
+    /// Whether the book may be closed and searched with `masks` masks: at the place 0, for callers without a job. After an `Ok`
+    /// neither refuses.
     pub fn check(&self, masks: usize) -> Result<(), Fault>
         ensures { Checks (open_of self.now) 0 masks result }
     {

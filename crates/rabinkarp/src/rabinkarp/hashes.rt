@@ -16,7 +16,8 @@ fn front_hash(book: &Book, id: PatternID) -> usize
     hash(front)
 }
 
-/// The hash of each pattern's first bytes, as many as the shortest pattern has, at its id.
+/// The hash of each pattern's first bytes, as many as the shortest pattern has, at its id. The table has a fixed size, so that
+/// making it cannot refuse.
 pub(crate) fn hashes(book: &Book) -> [usize; 1024]
     ensures { (i : ℕ) → i < count_of (book_of book.now) → slice_index result i ≡ prefix_hash (book_of book.now) i }
 {
