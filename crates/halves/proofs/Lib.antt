@@ -1,2 +1,3 @@
 pub mod Simd
 pub mod Words
+pub mod Loops

@@ -34,7 +34,7 @@ words_bytes low high i =
     (cases_lt i 16)
 
 -- an operation on words that works byte by byte
-words_op : (op : ℕ → ℕ → ℕ) → ((a b j : ℕ) → byte_at (op a b) j ≡ op (byte_at a j) (byte_at b j)) → (a b c d : ℕ)
+pub words_op : (op : ℕ → ℕ → ℕ) → ((a b j : ℕ) → byte_at (op a b) j ≡ op (byte_at a j) (byte_at b j)) → (a b c d : ℕ)
     → word_lanes (op a c) (op b d) ≡ row 16 (λ i. op (lane (word_lanes a b) i) (lane (word_lanes c d) i))
 words_op op each a b c d =
     row_ext 16 _ _
@@ -43,7 +43,7 @@ words_op op each a b c d =
     [ true ↦ each a c (i % 8) | false ↦ each b d (i % 8) ]))
 
 -- an operation on one word that maps each of its bytes
-words_map : (g f : ℕ → ℕ) (a b : ℕ) → ((w j : ℕ) → j < 8 → byte_at (g w) j ≡ f (byte_at w j)) → word_lanes (g a) (g b) ≡ row 16 (λ i. f (lane (word_lanes a b) i))
+pub words_map : (g f : ℕ → ℕ) (a b : ℕ) → ((w j : ℕ) → j < 8 → byte_at (g w) j ≡ f (byte_at w j)) → word_lanes (g a) (g b) ≡ row 16 (λ i. f (lane (word_lanes a b) i))
 words_map g f a b each =
     row_ext 16 _ _
     (λ i h. rw (lane_row 16 (λ k. byte_at (cond (nat_lt k 8) a b) (k % 8)) i h)

@@ -42,7 +42,7 @@ bytes_join a b e p q i =
 -- the halves a, b of one vector and c, d of another
 module _ (a b c d : List ℕ) (la : length a ≡ 16) (lc : length c ≡ 16) where
   -- an operation that works lane by lane
-  lanewise_join : (op : ℕ → ℕ → ℕ) → row 16 (λ i. op (lane a i) (lane c i)) ++ row 16 (λ i. op (lane b i) (lane d i)) ≡ row 32 (λ i. op (lane (a ++ b) i) (lane (c ++ d) i))
+  pub lanewise_join : (op : ℕ → ℕ → ℕ) → row 16 (λ i. op (lane a i) (lane c i)) ++ row 16 (λ i. op (lane b i) (lane d i)) ≡ row 32 (λ i. op (lane (a ++ b) i) (lane (c ++ d) i))
   lanewise_join op =
       row_join (λ i. op (lane (a ++ b) i) (lane (c ++ d) i)) (λ i. op (lane a i) (lane c i)) (λ i. op (lane b i) (lane d i))
       (λ i h. rw (lane_low a b la i h, lane_low c d lc i h))
