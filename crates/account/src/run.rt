@@ -1,4 +1,4 @@
-ghost use Rattle.std.specs.Prelude.{◌≡◌, ℕ, ◌<◌, [], length, vec_len, MatchResult, slice_index};
+ghost use Rattle.std.specs.Prelude.{◌≡◌, ℕ, ◌<◌, [], length, MatchResult, slice_index};
 ghost use Rattle.rules.specs.declared.fault.Refusal.TheVariants.{Memory};
 ghost use Rattle.rules.specs.Book.{count_of};
 ghost use Rattle.intake.specs.Intakes.{model};
@@ -54,9 +54,8 @@ fn finish(heap: Global, job: &[u8], lines: &mut Vec<Line>) -> Result<Summary, Fa
     ensures { Accounts job.now lines.new.items result }
 {
     let opened = open(heap, job)?;
-    let masks = opened.book.minimum_len().min(4);
     let book = Rc::new(heap, opened.book)?;
-    let searcher: Slim<Single<ArrayHalf>> = Slim::new(book, masks);
+    let searcher: Slim<Single<ArrayHalf>> = Slim::new(book, 4);
     sum_up(heap, searcher, opened.texts, lines)
 }
 

@@ -14,7 +14,7 @@ use rules::primitives::{Match, PatternID};
 /// How many hits a text may have.
 pub(crate) const MAX_HITS: usize = 4096;
 
-/// What an entry of a list of hits is before a hit is written to it.
+/// What an entry is before a hit is written to it: a scan writes to a list that is handed in.
 const BLANK: Match = Match {
     pattern: PatternID::ZERO,
     start: 0,
@@ -58,6 +58,7 @@ pub(crate) fn scan_texts<F: Finder + Drop>(
 {
     let mut intake = Intake::new(finder);
     let mut hits = [BLANK; MAX_HITS];
+    // No `for`: a fault leaves the reader where it is, so that as an iterator it would not end.
     while let Some(placed) = texts.next()? {
         let Record::Text(text) = placed.record else {
             return Err(Refusal::AfterText.at(placed.place));

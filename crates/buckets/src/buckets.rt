@@ -6,8 +6,8 @@ use rules::primitives::PatternID;
 
 pub mod methods;
 
-/// The ids of a book in 64 buckets: those of all buckets one after another, and where each bucket starts. The tables have
-/// the bounds of a book, so that making them cannot refuse.
+/// The ids of a book in 64 buckets: those of all buckets one after another, and where each bucket starts (64 lists of 1,024
+/// would be 256 KB). The tables have the bounds of a book, so that making them cannot refuse.
 #[derive(Drop)]
 pub struct Buckets {
     ids: ArrayVec<PatternID, 1024>,

@@ -26,12 +26,12 @@ chosen_first b t ids s i has preferred before j here =
     ]
 
 -- ids that are tried in turn at the place s of the text t
-pub record Tried (b : Book) (t : List ℕ) (s : ℕ) (ids : List ℕ) : Type 0 where
+pub record TriedAt (b : Book) (t : List ℕ) (s : ℕ) (ids : List ℕ) : Type 0 where
   pub known : (k : ℕ) → k < length ids → get_or ids k 0 < count_of b
   pub all : (j : ℕ) → OccursAt b t j s → (k : ℕ) × (k < length ids) × (get_or ids k 0 ≡ j)
   pub preferred : (k j : ℕ) → k < j → j < length ids → Preferred b (get_or ids k 0) (get_or ids j 0)
 
-module _ {b : Book} {t : List ℕ} {s : ℕ} {ids : List ℕ} (o : Tried b t s ids) (xs : List PatternID) (e : map number xs ≡ ids) where
+module _ {b : Book} {t : List ℕ} {s : ℕ} {ids : List ℕ} (o : TriedAt b t s ids) (xs : List PatternID) (e : map number xs ≡ ids) where
   long : length xs ≡ length ids
   long = sym (length-map xs number) ∙ ap length e
 

@@ -13,7 +13,7 @@ pub fn stands(pattern: &[u8], text: &[u8], start: usize) -> bool
     if start > text.len() || text.len() - start < pattern.len() {
         return false;
     }
-    // a loop over the pattern's bytes, where `starts_with` would do: a rule of the project
+    // A loop over the pattern's bytes, where `starts_with` would do: a rule of the project
     for (k, b) in pattern.iter().enumerate() {
         if text[start + k] != *b {
             return false;

@@ -1,3 +1,2 @@
 pub mod Simd
 pub mod Words
-pub mod Loops

@@ -2,7 +2,7 @@
 use Rattle.std.specs.Prelude.{◌≡◌, ℕ, zero, suc, ◌+◌, ◌*◌, ◌/◌, ◌%◌, ◌^◌, ◌<◌, ◌≤◌, true, false, ◌&&◌, cond, ltb, List, length, ◌==◌, bit_and, bit_or, nat_eq, nat_lt, refl}
 use Rattle.std.proofs.Common.{sym, ap, ◌∙◌, ⊎_elim, arith, add_comm}
 use Rattle.std.proofs.Math.Nat.{zero-div}
-use Rattle.std.proofs.lemmas.Nat.{and_le_l, and_le_r, shr-shr, and_shr, and_mod, or_shr, or_mod, and_mask}
+use Rattle.std.proofs.lemmas.Nat.{shr-shr, and_shr, and_mod, or_shr, or_mod, and_mask}
 use Rattle.std.proofs.lemmas.List.{get_or_past}
 use Rattle.std.proofs.lemmas.Bool.{cases_lt, cases_Bool}
 use Rattle.std.proofs.lemmas.Bool.Decides.{nat_tests}
@@ -11,10 +11,7 @@ use Rattle.halves.specs.Words.{word_lanes}
 use Rattle.vector.specs.Rows.{length-row, lane_row, row_is, row_ext}
 use Rattle.vector.proofs.Numbers.{zero_from, zero_to, number_past}
 use Rattle.vector.proofs.Words.{by_eight, number_of_bytes, byte_of_number}
-use Rattle.std.specs.Int.Bits.{or_add_and}
-
-pub or_is_zero : (a b : ℕ) → (bit_or a b == 0) ≡ (a == 0) && b == 0
-or_is_zero a b = let s = or_add_and a b in let l = and_le_l a b in let r = and_le_r a b in grind (arith, nat_tests)
+use Rattle.halves.specs.Loops.{or_is_zero}
 
 pub byte_and : (a b j : ℕ) → byte_at (bit_and a b) j ≡ bit_and (byte_at a j) (byte_at b j)
 byte_and a b j = rw (and_shr a b (8 * j)) (and_mod (a / 2 ^ (8 * j)) (b / 2 ^ (8 * j)) 8)

@@ -72,6 +72,7 @@ impl ArrayHalf {
         ArrayHalf { bytes }
     }
 
+    // `from_simd` and `to_simd` are private, which a `From` would not be.
     fn from_simd(lanes: u8x16) -> ArrayHalf
         ensures { result.bytes ≡ lanes }
     {

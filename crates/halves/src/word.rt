@@ -16,6 +16,7 @@ pub struct WordHalf {
 
 #[tactic(auto, using(crate::proofs::Words::words))]
 impl WordHalf {
+    // `pack` and `unpack` are private, which a `From` would not be.
     fn pack(lanes: ArrayHalf) -> WordHalf
         ensures { held result ≡ lanes.bytes }
     {
@@ -45,6 +46,7 @@ impl Half for WordHalf {
     ghost bytes = { λ h i. words_bytes _ _ i };
 
     fn splat(byte: u8) -> WordHalf {
+        // A product, since of `from_le_bytes` over equal bytes the check finds no proof.
         let word = u64::from(byte) * 0x0101_0101_0101_0101;
         WordHalf {
             low: word,

@@ -9,7 +9,7 @@ ghost use Rattle.hash.specs.Hash.{hash_of, leading, moved, Rolling};
 fn push(hash: usize, byte: u8) -> usize
     ensures { result ≡ (hash * 2 + byte) % 2 ^ 64 }
 {
-    hash.wrapping_shl(1).wrapping_add(byte as usize)
+    hash.wrapping_shl(1).wrapping_add(usize::from(byte))
 }
 
 /// The hash of some bytes.
@@ -37,7 +37,7 @@ pub fn update_hash(prev: usize, hash_2pow: usize, old: u8, new: u8) -> usize
     ensures { result ≡ moved prev hash_2pow old new }
 {
     push(
-        prev.wrapping_sub((old as usize).wrapping_mul(hash_2pow)),
+        prev.wrapping_sub(usize::from(old).wrapping_mul(hash_2pow)),
         new,
     )
 }

@@ -56,6 +56,7 @@ impl Searcher {
         ensures { IfOk result (λ o. o ≡ found (book_of book) text.now at) }
     {
         let shared = Rc::new(heap, book)?;
+        // Three types of searchers, so a match: the C interface has these three.
         Ok(match self {
             Searcher::Plain => Plain::new(shared).find(text, at),
             Searcher::RollingHash => RabinKarp::new(shared).find(text, at),

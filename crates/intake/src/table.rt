@@ -21,7 +21,7 @@ impl Tally {
     }
 }
 
-/// As many as a book has patterns at most.
+/// As many as a book has patterns at most, said again: this crate does not stand on `pattern`.
 pub const MAX_PATTERNS: usize = 1024;
 
 /// The tally of each pattern, by its id. It has a fixed size, so that making one cannot fail.

@@ -28,6 +28,7 @@ fn intake_of(heap: Global) -> anyhow::Result<Intake<Plain>> {
 }
 
 /// A tally, or the fault of the call for it.
+// An id here may be above those of `PatternID::from`.
 fn show_tally(rt: &HostRuntime, intake: &Intake<Plain>, id: u32) -> io::Result<()> {
     match intake.tally(PatternID(SmallIndex(id))) {
         Ok(tally) => println!(rt; "  tally {id}: {tally}"),

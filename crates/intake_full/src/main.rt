@@ -3,7 +3,7 @@
 #![tactic(auto)]
 
 use finder::plain::Plain;
-use intake::intake::Intake;
+use intake::intake::{Intake, MAX_TEXTS};
 use pattern::patterns::Patterns;
 use rules::primitives::{Match, PatternID};
 use std::io;
@@ -33,7 +33,7 @@ fn show_scan(
 
 /// Has all texts but one accepted.
 fn fill(intake: &mut Intake<Plain>, hits: &mut [Match]) {
-    for _ in 0..65534u32 {
+    for _ in 0..MAX_TEXTS - 1 {
         let _ = intake.scan(b"AA", hits);
     }
 }

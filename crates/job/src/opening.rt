@@ -1,4 +1,4 @@
-ghost use Rattle.std.specs.Prelude.{◌≡◌, cond, length, Ok, MatchResult};
+ghost use Rattle.std.specs.Prelude.{◌≡◌, length, Ok, MatchResult};
 ghost use Rattle.pattern.specs.Closed.{book_of};
 ghost use Rattle.pattern.specs.Contents.{empty};
 ghost use Rattle.pattern.specs.Entering.{open_of};
@@ -45,6 +45,7 @@ fn fill(heap: Global, job: &[u8]) -> Result<Filled, Fault>
 {
     let mut patterns = Patterns::new(heap);
     let mut reader = Reader::new(job);
+    // No `for`: a fault leaves the reader where it is, so that as an iterator it would not end.
     while let Some(placed) = reader.next()? {
         if let Record::Text(_) = placed.record {
             return Ok(Filled {

@@ -1,4 +1,4 @@
-ghost use Rattle.std.specs.Prelude.{◌≡◌};
+ghost use Rattle.std.specs.Prelude.{◌≡◌, OnErr};
 ghost use Rattle.job.specs.Format.{step, made_of, bare};
 ghost use Rattle.job.specs.Reading.{told, placed, entry, entries};
 
@@ -25,6 +25,7 @@ impl<'a> Reader<'a> {
         ensures step { told result self.new.at ≡ step self.old.job.now self.old.at }
         ensures place { placed result self.old.at ≡ self.old.at }
         ensures job { self.new.job.now ≡ self.old.job.now }
+        ensures stays { OnErr result (self.new.at ≡ self.old.at) }
     {
         let at = self.at;
         if self.job.len() <= at {

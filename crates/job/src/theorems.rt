@@ -2,15 +2,10 @@ ghost use Rattle.std.specs.Prelude.{◌≡◌, true};
 ghost use Rattle.job.specs.Written.{ReadsBack};
 
 /// A job that is records in a row reads as those records, with their places, up to its end. It answers `true`.
+#[tactic(auto, using(crate::proofs::Written::reads_back))]
 pub fn jobs_read_back() -> bool
     ensures back { ReadsBack }
     ensures value { result ≡ true }
 {
-    reads_back();
     true
 }
-
-/// What `jobs_read_back` states.
-fn reads_back()
-    ensures { ReadsBack }
-{}

@@ -18,7 +18,7 @@ pub struct Masks<V> {
     pub fourth: Mask<V>,
 }
 
-/// What the first three masks admitted in the window before.
+/// What the first three masks admitted in the window before, named as the masks are.
 #[derive(Clone, Copy)]
 pub struct Seen<V> {
     pub first: V,

@@ -54,4 +54,4 @@ reading_order t s =
 
 -- and so have the ids of a closed book, in the order of its kind
 pub ordered : (b : Closed) (ids : List ℕ) → ids ≡ order_in b → ReadingOrder (book_of b) ids
-ordered b ids e = rw e (reading_order b.table (search rules))
+ordered b ids e = rw e (reading_order b.table b.sound)

@@ -13,7 +13,7 @@ pub struct Table {
     pub(crate) by_id: Vec<Vec<u8>>,
     /// The ids in order of entry, 0, 1, 2, ..: a list of them, since the order is lent as a slice.
     pub(crate) entered: Vec<PatternID>,
-    /// The ids by falling length, equal lengths by rising id.
+    /// The ids by falling length, equal lengths by rising id: kept at entry, since the order is lent as a slice.
     pub(crate) order: Vec<PatternID>,
     /// Kept, as the total is, so that no call counts through the patterns.
     pub(crate) minimum_len: usize,
@@ -21,6 +21,7 @@ pub struct Table {
 }
 
 impl Table {
+    // A call of the inner table changes the book: a rule of the project.
     pub(crate) fn set_kind(&mut self, kind: MatchKind)
         ensures { self.new ≡ record self.old { kind = kind } }
     {

@@ -5,10 +5,11 @@
 use account::report::report;
 use account::run::run;
 use anyhow::ensure;
+use job::opening::MAX_JOB;
 use std::io::Read;
 
 /// A job above 65,536 bytes is refused, so no more than one byte more is read.
-const LIMIT: u64 = 65537;
+const LIMIT: u64 = MAX_JOB as u64 + 1;
 
 fn main(rt: HostRuntime) -> anyhow::Result<()> {
     let heap = rt.alloc();

@@ -9,7 +9,7 @@ use Rattle.pattern.specs.Closed.{order_in}
 use Rattle.hash.specs.Hash.{hash_of, window}
 use Rattle.buckets.specs.Buckets.{members, in_bucket}
 use Rattle.buckets.proofs.Members.{bucket_known, bucket_all, bucket_preferred}
-use Rattle.finder.proofs.Choosing.{read, Tried}
+use Rattle.finder.proofs.Choosing.{read, TriedAt}
 use Rattle.rabinkarp.specs.declared.rabinkarp.RabinKarp.{RabinKarp}
 use Rattle.rabinkarp.specs.Prefixes.{bucket_of}
 use Rattle.rabinkarp.specs.Searched.{searched}
@@ -28,7 +28,7 @@ module _ {x : RabinKarp} {t : List ℕ} {s h : ℕ} {xs : List PatternID} (o : O
   pub names : map number xs ≡ ids_of x h
   names = o.same ∙ x.placed (h % 64) (mod-lt h (lit< tt))
 
-  pub tried : Tried (searched x) t s (ids_of x h)
+  pub tried : TriedAt (searched x) t s (ids_of x h)
   tried = record {
     known = bucket_known (rc_value x.book) (bucket_of (searched x)) (h % 64);
     all = λ j here. bucket_all (rc_value x.book) (bucket_of (searched x)) (h % 64) j here.known (ap (λ n. n % 64) (standing_hash (searched x) t j s here.known here.stands ∙ sym o.is));

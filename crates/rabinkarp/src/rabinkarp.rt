@@ -20,7 +20,7 @@ pub struct RabinKarp {
     buckets: Buckets,
     /// The hash of each pattern's first bytes, at its id.
     hashes: [usize; 1024],
-    /// How many bytes are hashed: those of the shortest pattern.
+    /// How many bytes are hashed: those of the shortest pattern. Kept, as `hash_2pow` is, so that no search computes them.
     hash_len: usize,
     /// By how much the first of them counts.
     hash_2pow: usize,

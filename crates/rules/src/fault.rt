@@ -5,7 +5,7 @@ ghost use Rattle.rules.specs.Refusals.{number, layer, line};
 use std::alloc::{AllocError, AllocFailed};
 use std::fmt;
 
-/// Why a call was refused. The discriminants are the numbers of the fault line.
+/// Why a call was refused. The discriminants are the numbers that are reported.
 #[derive(Clone, Copy, PartialEq, Eq, Debug)]
 pub enum Refusal {
     /// The pattern has no bytes.

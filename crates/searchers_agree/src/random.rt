@@ -1,6 +1,6 @@
 use std::alloc::{AllocError, Global};
 
-/// Numbers that look random and are the same in each run.
+/// Numbers that look random and are the same in each run. What is printed counts on these, so they are not those of `xorshift`.
 #[derive(Drop)]
 pub(crate) struct Random {
     state: u64,

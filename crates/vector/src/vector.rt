@@ -2,8 +2,7 @@
 ghost use Rattle.std.specs.Prelude.{◌≡◌, ℕ, ◌<◌, ◌⊎◌, List, length};
 ghost use Rattle.vector.specs.Lanes.{lane, splatted, loaded, all_zero, anded, ored, compared, shifted_right_4, shifted_in, shuffled, lane64};
 
-// Half and vector share no trait above both: it would take one more impl for each kind, and their clauses would no longer
-// say 16 and 32.
+// Half and vector as two traits: a rule of the project. A trait above both would take one more impl for each kind.
 /// Lanes of a byte each, on which an operation works at once. Its meaning is the list of its lanes, lane 0 first.
 pub trait Vector: Copy {
     // how many lanes there are
@@ -43,7 +42,8 @@ pub trait Vector: Copy {
     fn shift_right_four(self) -> Self
         ensures { lanes result ≡ shifted_right_4 count (lanes self) };
 
-    // Three methods and no const parameter: a trait's method that has one is not proved yet.
+    // Three methods, as in the Rust: with a count, as in `Half`, the doubled vector would demand at most 16, and a trait's
+    // method that has a const parameter is not proved.
     /// The last lane of `other`, then all lanes of `self` but its last.
     fn shift_in_one_byte(self, other: Self) -> Self
         ensures { lanes result ≡ shifted_in 1 count (lanes self) (lanes other) };

@@ -9,8 +9,8 @@ use pattern::book::Book;
 use rules::primitives::PatternID;
 
 impl Buckets {
-    /// Puts each id of a book into the bucket that its key is modulo 64; `keys` has the key of each id. Within a bucket the
-    /// ids are in the order of the book's kind.
+    /// Puts each id of a book into the bucket that its key is modulo 64; `keys` has the key of each id, in a table of
+    /// fixed size, so that making it cannot refuse. Within a bucket the ids are in the order of the book's kind.
     pub fn new(book: &Book, keys: &[usize; 1024]) -> Buckets
         ensures { Holds result (λ id. slice_index keys.now id % 64) (order_in book.now) }
     {
@@ -26,6 +26,7 @@ impl Buckets {
     }
 }
 
+// Beside `new`, since it is proved by hand: an edit of the public function is to be refused at its own line.
 /// The ids of an order by their keys.
 fn group(order: &[PatternID], keys: &[usize; 1024]) -> Buckets
     requires few { length order.now ≤ 1024 }
@@ -37,6 +38,7 @@ fn group(order: &[PatternID], keys: &[usize; 1024]) -> Buckets
     for k in 0..64usize {
         for id in order {
             if keys[id.as_usize()] % 64 == k {
+                // One by one, since `extend` answers a `Result`.
                 ids.push(*id);
             }
         }

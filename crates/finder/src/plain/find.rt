@@ -15,7 +15,7 @@ use std::rc::Rc;
 fn find_here(book: &Book, text: &[u8], start: usize) -> Option<Match>
     ensures { AnswersAt (book_of book.now) text.now start result }
 {
-    // the order table with its index, by a rule of the project; `verify` here takes 1.4 times as long
+    // The order table with its index, by a rule of the project; `verify` here takes 1.4 times as long
     for (i, id) in book.order().iter().enumerate() {
         let pattern = book.get(*id);
         if stands(pattern, text, start) {

@@ -42,6 +42,7 @@ impl RabinKarp {
         &self.book
     }
 
+    // Beside `find_here`, since that is proved by hand: an edit is to be refused at this line.
     /// The match of a pattern at a place, if its bytes stand there.
     fn verify(&self, id: PatternID, text: &[u8], start: usize) -> Option<Match>
         ensures { MatchOption result (Stands (pattern (searched self.now) id.0.0) text.now start → ⊥) (λ m. Stands (pattern (searched self.now) id.0.0) text.now start × (m ≡ hit (searched self.now) id.0.0 start)) }

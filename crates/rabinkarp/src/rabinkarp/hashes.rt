@@ -7,6 +7,7 @@ use hash::hash;
 use pattern::book::Book;
 use rules::primitives::PatternID;
 
+// Beside `hashes`, since that is proved by hand: an edit is to be refused at this line.
 /// The hash of a pattern's first bytes, as many as the shortest pattern has.
 fn front_hash(book: &Book, id: PatternID) -> usize
     requires { id.0.0 < count_of (book_of book.now) }

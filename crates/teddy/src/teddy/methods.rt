@@ -78,6 +78,7 @@ impl Teddy {
         self.tables.buckets.bucket(k)
     }
 
+    // Beside `windows`, since that is proved by hand: an edit is to be refused at this line.
     /// The match of a pattern at a place, if its bytes stand there.
     pub(crate) fn verify(&self, id: PatternID, text: &[u8], start: usize) -> Option<Match>
         ensures { MatchOption result (Stands (pattern (book_in self.now.tables) id.0.0) text.now start → ⊥) (λ m. Stands (pattern (book_in self.now.tables) id.0.0) text.now start × (m ≡ hit (book_in self.now.tables) id.0.0 start)) }

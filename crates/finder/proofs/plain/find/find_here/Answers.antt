@@ -3,11 +3,11 @@ use Rattle.rules.specs.Book.{id, pattern}
 use Rattle.rules.specs.Search.{Stands}
 use Rattle.pattern.specs.Order.{ReadingOrder}
 use Rattle.pattern.specs.Closed.{book_of, order_in}
-use Rattle.finder.proofs.Choosing.{read, Tried, chosen, none}
+use Rattle.finder.proofs.Choosing.{read, TriedAt, chosen, none}
 use Rattle.finder.proofs.plain.find.find_here.Goals as goal
 use Rattle.finder.proofs.plain.find.find_here.Goals.{After-order-id-items}
 
-order : (c : After-order-id-items) → Tried (book_of c.args.book.now) c.args.text.now c.args.start (order_in c.args.book.now)
+order : (c : After-order-id-items) → TriedAt (book_of c.args.book.now) c.args.text.now c.args.start (order_in c.args.book.now)
 order c =
     let o = subst (ReadingOrder (book_of c.args.book.now)) c.order-id-items.ensures.same c.order-id-items.ensures.order in
     record { known = o.known; all = λ j here. o.all j here.known; preferred = o.preferred }

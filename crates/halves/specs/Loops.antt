@@ -1,14 +1,15 @@
--- What a loop over the lanes of an array has done after i turns: for a half that is written by loops, as none is here.
+-- What a loop over the lanes of an array has done after i turns.
 use Rattle.std.specs.Prelude.{◌≡◌, ℕ, ◌+◌, ◌-◌, ◌*◌, ◌%◌, ◌^◌, ◌<◌, ◌≤◌, Bool, true, false, ◌&&◌, List, [], ◌∷◌, length, take, ◌==◌, bit_or, slice_set, refl}
 use Rattle.std.proofs.Common.{sym, ap, ◌∙◌, arith, mod-eq_of_lt}
 use Rattle.std.proofs.Math.Nat.{pow-le-pow_right}
-use Rattle.std.proofs.lemmas.Nat.{or_shifted}
+use Rattle.std.specs.Int.Bits.{or_add_and}
+use Rattle.std.proofs.lemmas.Nat.{and_le_l, and_le_r, or_shifted}
 use Rattle.std.proofs.lemmas.List.Edits.{fill_by_more}
 use Rattle.std.proofs.lemmas.List.{length-set, take_more}
+use Rattle.std.proofs.lemmas.Bool.Decides.{nat_tests}
 use Rattle.vector.specs.Lanes.{lane, row, all_zero, number}
 use Rattle.vector.specs.Rows.{row_is}
 use Rattle.vector.proofs.Numbers.{zero-append, number_more, number_lt}
-use Rattle.halves.specs.WordsLemmas.{or_is_zero}
 
 -- an array of sixteen whose first i are those of f
 abbrev pub Filling : (ℕ → ℕ) → ℕ → List ℕ → Type 0
@@ -25,6 +26,9 @@ filling_done f i xs h inv = row_is 16 f xs inv.0 (λ k lt. inv.1 k (omega arith)
 and_true : (a : Bool) → (a && true) ≡ a
 and_true true = refl
 and_true false = refl
+
+pub or_is_zero : (a b : ℕ) → (bit_or a b == 0) ≡ (a == 0) && b == 0
+or_is_zero a b = let s = or_add_and a b in let l = and_le_l a b in let r = and_le_r a b in grind (arith, nat_tests)
 
 pub zero_more : (xs : List ℕ) (i any : ℕ) → i < length xs → (any == 0) ≡ all_zero (take i xs) → (bit_or any (lane xs i) == 0) ≡ all_zero (take (i + 1) xs)
 zero_more xs i any h e =
