@@ -43,11 +43,11 @@ fn book(heap: Global) -> Book {
 
 fn text(heap: Global) -> anyhow::Result<Vec<u8>> {
     let mut random = Xorshift::FIRST;
-    let mut text = Vec::with_capacity(heap, LEN)?;
-    for _ in 0..LEN {
-        text.push(LETTERS[(random.next() % 32) as usize])?;
-    }
-    Ok(text)
+    Ok(
+        (0..LEN)
+            .map(|_| LETTERS[(random.next() % 32) as usize])
+            .collect(heap)?,
+    )
 }
 
 /// Searches the text again and again, and prints the time of a search; the text has no hit.
