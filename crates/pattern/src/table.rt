@@ -57,11 +57,6 @@ impl Table {
     pub(crate) fn pattern(&self, id: PatternID) -> &[u8]
         ensures { result.now ≡ pattern (contents self.now) id.0.0 }
     {
-        // By an index test: with `get` and `map_or` the mask searchers were 5 to 9 % slower at 600 patterns.
-        let i = id.as_usize();
-        if i >= self.by_id.len() {
-            return &[];
-        }
-        self.by_id[i].as_slice()
+        self.by_id.get(id.as_usize()).map_or(&[], |v| v.as_slice())
     }
 }

@@ -1,4 +1,4 @@
-use Rattle.std.proofs.Common.{◌≡◌, ℕ, ◌+◌, ◌-◌, ◌<◌, ◌≤◌, List, length, get_or, None, Option, refl, rc_value, ap, ◌∙◌, arith}
+use Rattle.std.proofs.Common.{◌≡◌, ℕ, ◌+◌, ◌-◌, ◌<◌, ◌≤◌, List, length, get_or, None, Option, rc_value, ap, ◌∙◌, arith}
 use Rattle.rules.specs.declared.primitives.Match.{Match}
 use Rattle.rules.specs.Book.{shortest}
 use Rattle.rules.specs.Search.{id_of, OccursAt, found}
@@ -10,7 +10,6 @@ use Rattle.pattern.proofs.Shortest.{shortest_le, shortest_pos}
 use Rattle.rabinkarp.specs.declared.rabinkarp.RabinKarp.{RabinKarp}
 use Rattle.rabinkarp.specs.Searched.{searched}
 use Rattle.rabinkarp.proofs.rabinkarp.find.RabinKarpFinder.find.Goals as goal
-use Rattle.rabinkarp.proofs.rabinkarp.find.RabinKarpFinder.find.Goals.{then-at-text-via-then-at-text, then-at-text-via-else-at-text+then-text-at}
 
 -- an occurrence has its window in the text
 fits : (x : RabinKarp) (t : List ℕ) (i s : ℕ) → OccursAt (searched x) t i s → s + x.hash_len ≤ length t
@@ -30,11 +29,11 @@ next x t s h l e =
     ∙ (ap (λ n. moved (hash_of (window t m s)) (leading m) (get_or t s 0) (get_or t (s + n) 0)) x.measured
     ∙ rolling t m s (shortest_pos (searched x) (rc_value x.book).some) (omega (arith, x.measured))))
 
-pub returns-then-at-text : goal.returns-then-at-text
-returns-then-at-text c = short c.args.self.now c.args.text.now c.args.at None refl (elim c.then-at-text.branch [
-  | then-at-text-via-then-at-text w ↦ omega (arith, w.if-at-text.true)
-  | then-at-text-via-else-at-text+then-text-at w ↦ omega (arith, w.if-text-at.true)
-])
+pub returns-in_err-get : goal.returns-in_err-get
+returns-in_err-get c = short c.args.self.now c.args.text.now c.args.at c.from_residual.result c.from_residual.ensures (omega (arith, c.in_err-get.ensures.lookup))
+
+pub returns-in_err-get-2 : goal.returns-in_err-get-2
+returns-in_err-get-2 c = short c.args.self.now c.args.text.now c.args.at c.from_residual-in_err-get-2.result c.from_residual-in_err-get-2.ensures (omega (arith, c.in_ok-get.ensures.lookup, c.in_err-get-2.ensures.lookup))
 
 pub returns-in-Some : goal.returns-in-Some
 returns-in-Some c = passed_found (searched c.args.self.now) c.args.text.now c.args.at c.loop-start.start c.in-Some.hit c.loop-start.invariant.passed c.in-Some.ensures
@@ -54,7 +53,7 @@ returns c =
     let x = c.args.self.now in
     let t = c.args.text.now in
     let s = length t - x.hash_len in
-    let room : c.args.at ≤ s = omega (arith, c.if-at-text.false, c.if-text-at.false) in
+    let room : c.args.at ≤ s = omega (arith, c.in_ok-get.ensures.lookup, c.in_ok-get-2.ensures.lookup) in
     let e : c.loop-start.start ≡ s = omega (arith, c.loop-start-test.false, c.loop-start.auto.start-end room) in
     found_unique (searched x) t c.args.at c.find_here-2.result (settled (searched x) t c.args.at s c.find_here-2.result room c.find_here-2.ensures
     (λ i k le lt o. c.loop-start.invariant.passed.none i k le (omega arith) o)
