@@ -2,6 +2,7 @@ ghost use Rattle.std.specs.Prelude.{ℕ, ◌+◌, ◌<◌, ◌≤◌, slice_inde
 ghost use Rattle.arrayvec.specs.ArrayVec.{array_vec_len};
 
 use arrayvec::ArrayVec;
+use pattern::patterns::methods::MAX_PATTERNS;
 use rules::primitives::PatternID;
 
 pub mod methods;
@@ -10,7 +11,7 @@ pub mod methods;
 /// would be 256 KB). The tables have the bounds of a book, so that making them cannot refuse.
 #[derive(Drop)]
 pub struct Buckets {
-    ids: ArrayVec<PatternID, 1024>,
+    ids: ArrayVec<PatternID, MAX_PATTERNS>,
     starts: [usize; 65],
     ghost rising: { (k : ℕ) → k < 64 → slice_index starts k ≤ slice_index starts (k + 1) },
     ghost within: { (k : ℕ) → k < 64 → slice_index starts (k + 1) ≤ array_vec_len ids },

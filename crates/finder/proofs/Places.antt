@@ -12,9 +12,6 @@ pub record Passed (b : Book) (t : List ℕ) (at s : ℕ) : Type 0 where
   pub begun : at ≤ s
   pub none : (i k : ℕ) → at ≤ k → k < s → OccursAt b t i k → ⊥
 
-pub passed_start : (b : Book) (t : List ℕ) (at : ℕ) → Passed b t at at
-passed_start b t at = record { begun = omega arith; none = λ i k le lt o. absurd (omega arith) }
-
 pub passed_more : (b : Book) (t : List ℕ) (at s : ℕ) → Passed b t at s → AnswersAt b t s None → Passed b t at (s + 1)
 passed_more b t at s p here = record {
   begun = omega (arith, p.begun);

@@ -1,6 +1,6 @@
-ghost use Rattle.std.specs.Prelude.{◌≡◌, MatchBool, MatchOption};
-ghost use Rattle.rules.specs.Book.{pattern};
-ghost use Rattle.rules.specs.Search.{Stands, hit};
+ghost use Rattle.std.specs.Prelude.{MatchBool};
+ghost use Rattle.rules.specs.Search.{Stands};
+ghost use Rattle.rules.specs.Places.{Verified};
 ghost use Rattle.pattern.specs.Closed.{book_of};
 
 use pattern::book::Book;
@@ -13,7 +13,7 @@ pub fn stands(pattern: &[u8], text: &[u8], start: usize) -> bool
     if start > text.len() || text.len() - start < pattern.len() {
         return false;
     }
-    // A loop over the pattern's bytes, where `starts_with` would do: a rule of the project
+    // A loop over the pattern's bytes, where `starts_with` would do: a rule of the project.
     for (k, b) in pattern.iter().enumerate() {
         if text[start + k] != *b {
             return false;
@@ -24,13 +24,10 @@ pub fn stands(pattern: &[u8], text: &[u8], start: usize) -> bool
 
 /// The match of a pattern at a place, if its bytes stand there.
 pub fn verify(book: &Book, id: PatternID, text: &[u8], start: usize) -> Option<Match>
-    ensures { MatchOption result (Stands (pattern (book_of book.now) id.0.0) text.now start → ⊥) (λ m. Stands (pattern (book_of book.now) id.0.0) text.now start × (m ≡ hit (book_of book.now) id.0.0 start)) }
+    ensures { Verified (book_of book.now) id.0.0 text.now start result }
 {
     let pattern = book.get(id);
-    if !stands(pattern, text, start) {
-        return None;
-    }
-    Some(Match {
+    stands(pattern, text, start).then(|| Match {
         pattern: id,
         start,
         end: start + pattern.len(),

@@ -131,11 +131,6 @@ impl Half for ArrayHalf {
     }
 
     fn lane_64(self, k: usize) -> u64 {
-        let [low, high] = words(self.bytes);
-        match k {
-            0 => low,
-            1 => high,
-            _ => 0,
-        }
+        words(self.bytes).get(k).copied().unwrap_or(0)
     }
 }

@@ -96,10 +96,6 @@ impl Half for WordHalf {
     }
 
     fn lane_64(self, k: usize) -> u64 {
-        match k {
-            0 => self.low,
-            1 => self.high,
-            _ => 0,
-        }
+        [self.low, self.high].get(k).copied().unwrap_or(0)
     }
 }

@@ -1,7 +1,7 @@
 -- searcher_of s c   the searcher with the number s, and with the mask count c where it has masks
 -- misfits x b       whether the searcher x has a mask count that the book b does not permit
-use Rattle.std.specs.Prelude.{ℕ, Bool, false, cond, ◌||◌, Some, None, Option, ◌==◌, nat_lt}
-use Rattle.rules.specs.Book.{Book, shortest}
+use Rattle.std.specs.Prelude.{ℕ, Bool, false, cond, Some, None, Option, ◌==◌}
+use Rattle.rules.specs.Book.{Book, bad_masks}
 use Rattle.host.specs.declared.searcher.Searcher.{Searcher}
 use Rattle.host.specs.declared.searcher.Searcher.TheVariants.{Plain, RollingHash, Masks}
 
@@ -11,4 +11,4 @@ searcher_of s c = cond (s == 0) (Some Plain) (cond (s == 1) (Some RollingHash) (
 abbrev pub misfits : Searcher → Book → Bool
 misfits Plain b = false
 misfits RollingHash b = false
-misfits (Masks c) b = c == 0 || nat_lt 4 c || nat_lt (shortest b) c
+misfits (Masks c) b = bad_masks b c

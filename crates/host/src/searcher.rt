@@ -40,7 +40,7 @@ impl Searcher {
         ensures { result ≡ misfits self (book_of book.now) }
     {
         match self {
-            Searcher::Masks(count) => count == 0 || count > 4 || count > book.minimum_len(),
+            Searcher::Masks(count) => book.misfits(count),
             _ => false,
         }
     }

@@ -3,6 +3,7 @@ ghost use Rattle.rules.specs.Search.{id_of};
 ghost use Rattle.rules.specs.Ledger.{hits_with};
 ghost use Rattle.intake.specs.Tallies.{tallies, sum};
 
+use pattern::patterns::methods::MAX_PATTERNS;
 use rules::primitives::{Match, PatternID};
 
 /// How often a pattern was hit.
@@ -20,9 +21,6 @@ impl Tally {
         self.hits += 1;
     }
 }
-
-/// As many as a book has patterns at most, said again: this crate does not stand on `pattern`.
-pub const MAX_PATTERNS: usize = 1024;
 
 /// The tally of each pattern, by its id. It has a fixed size, so that making one cannot fail.
 #[derive(Drop)]

@@ -10,6 +10,7 @@ use crate::reader::Reader;
 use crate::record::Record;
 use pattern::book::Book;
 use pattern::patterns::Patterns;
+use pattern::patterns::methods::MAX_MASKS;
 use rules::fault::{Fault, Refusal};
 use rules::primitives::MatchKind;
 use std::alloc::Global;
@@ -77,7 +78,7 @@ pub fn open<'a>(heap: Global, job: &'a [u8]) -> Result<Opened<'a>, Fault>
     }
     let filled = fill(heap, job)?;
     let Filled { patterns, at } = filled;
-    patterns.check_at(at, patterns.minimum_len().min(4))?;
+    patterns.check_at(at, patterns.minimum_len().min(MAX_MASKS))?;
     Ok(Opened {
         book: patterns.close(),
         texts: Reader { job, at },

@@ -3,13 +3,13 @@
 -- Enters b place p r b'  what entering p at a place answers, and the book then: a refusal, and want of memory, alters nothing
 -- checking b c           the refusal of a book that is to be closed and searched with c masks
 -- Checks b place c r     what the call before closing answers
-use Rattle.std.specs.Prelude.{◌≡◌, ℕ, ◌+◌, cond, ◌||◌, List, length, Some, None, Option, Result, MatchOption, MatchResult, ◌==◌, nat_le, nat_lt}
+use Rattle.std.specs.Prelude.{◌≡◌, ℕ, ◌+◌, cond, List, length, Some, None, Option, Result, MatchOption, MatchResult, ◌==◌, nat_le, nat_lt}
 use Rattle.std.specs.Option.{unwrap_or}
 use Rattle.rules.specs.declared.fault.Fault.{Fault}
 use Rattle.rules.specs.declared.fault.Refusal.{Refusal}
 use Rattle.rules.specs.declared.fault.Refusal.TheVariants.{EmptyPattern, TooManyPatterns, TooManyBytes, NoPatterns, BadMaskCount, Memory}
 use Rattle.rules.specs.declared.primitives.PatternID.{PatternID}
-use Rattle.rules.specs.Book.{Book, id, count_of, total, shortest}
+use Rattle.rules.specs.Book.{Book, id, count_of, total, bad_masks}
 use Rattle.rules.specs.Entered.{enter}
 use Rattle.pattern.specs.declared.patterns.Patterns.{Patterns}
 use Rattle.pattern.specs.Closed.{book_of}
@@ -34,7 +34,7 @@ Enters b at p r b' = MatchResult r
 abbrev pub checking : Book → ℕ → Option Refusal
 checking b c =
     cond (count_of b == 0) (Some NoPatterns)
-    (cond (c == 0 || nat_lt 4 c || nat_lt (shortest b) c) (Some BadMaskCount) None)
+    (cond (bad_masks b c) (Some BadMaskCount) None)
 
 abbrev pub Checks : Book → ℕ → ℕ → Result (Unit {0}) Fault → Type 0
 Checks b at c r = MatchResult r (λ _. checking b c ≡ None) (λ e. MatchOption (checking b c) ⊥ (λ x. e ≡ refused at x))

@@ -1,6 +1,4 @@
-ghost use Rattle.std.specs.Prelude.{ℕ, ◌<◌, ◌≤◌};
-ghost use Rattle.rules.specs.Book.{count_of, size, total};
-ghost use Rattle.pattern.specs.Contents.{contents, Sound};
+ghost use Rattle.pattern.specs.Contents.{Sound};
 
 use crate::table::Table;
 
@@ -12,8 +10,4 @@ pub mod reads;
 pub struct Book {
     pub(crate) table: Table,
     ghost sound: { Sound table },
-    // Of `sound` too, and by names of their own, since proofs of searchers cite them.
-    ghost some: { (i : ℕ) → i < count_of (contents table) → 0 < size (contents table) i },
-    ghost few: { count_of (contents table) ≤ 1024 },
-    ghost short: { total (contents table) ≤ 16384 },
 }

@@ -7,6 +7,7 @@ ghost use Rattle.rabinkarp.specs.Prefixes.{prefix_hash, bucket_of};
 
 use buckets::buckets::Buckets;
 use pattern::book::Book;
+use pattern::patterns::methods::MAX_PATTERNS;
 use std::rc::Rc;
 
 pub mod find;
@@ -19,7 +20,7 @@ pub struct RabinKarp {
     book: Rc<Book>,
     buckets: Buckets,
     /// The hash of each pattern's first bytes, at its id.
-    hashes: [usize; 1024],
+    hashes: [usize; MAX_PATTERNS],
     /// How many bytes are hashed: those of the shortest pattern. Kept, as `hash_2pow` is, so that no search computes them.
     hash_len: usize,
     /// By how much the first of them counts.

@@ -5,9 +5,10 @@
 -- size b i       how many they are
 -- total b        the bytes of all patterns together
 -- shortest b     the smallest length; the largest 64-bit number where there is no pattern
+-- bad_masks b c  whether a search with c masks is not permitted: no mask, more than four, or more than the shortest length
 -- Within b       the bounds of a book
 -- Preferred b i j   of two patterns that occur at one place, i is answered rather than j, or is j
-use Rattle.std.specs.Prelude.{◌≡◌, ℕ, ◌-◌, ◌^◌, ◌<◌, ◌≤◌, min, ◌⊎◌, List, [], length, fold, sum_by, slice_index_or}
+use Rattle.std.specs.Prelude.{◌≡◌, ℕ, ◌-◌, ◌^◌, ◌<◌, ◌≤◌, min, Bool, ◌||◌, ◌⊎◌, List, [], length, fold, sum_by, ◌==◌, nat_lt, slice_index_or}
 use Rattle.rules.specs.declared.primitives.PatternID.{PatternID}
 use Rattle.rules.specs.declared.primitives.MatchKind.{MatchKind}
 use Rattle.rules.specs.declared.primitives.MatchKind.TheVariants.{LeftmostFirst, LeftmostLongest}
@@ -33,6 +34,9 @@ total b = sum_by length b.patterns
 
 abbrev pub shortest : Book → ℕ
 shortest b = fold (λ m p. min m (length p)) (2 ^ 64 - 1) b.patterns
+
+abbrev pub bad_masks : Book → ℕ → Bool
+bad_masks b c = c == 0 || nat_lt 4 c || nat_lt (shortest b) c
 
 pub record Within (b : Book) : Type 0 where
   pub some : (i : ℕ) → i < count_of b → 0 < size b i

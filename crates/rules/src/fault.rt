@@ -52,11 +52,17 @@ impl Refusal {
     pub fn layer(self) -> u8
         ensures { result ≡ layer self }
     {
-        // By numbers, since those of a layer stand in a row: by names this would be fifteen cases.
-        match self.number() {
-            0 => 0,
-            1..=5 => 1,
-            6..=9 => 2,
+        match self {
+            Refusal::Memory => 0,
+            Refusal::EmptyPattern
+            | Refusal::TooManyPatterns
+            | Refusal::TooManyBytes
+            | Refusal::NoPatterns
+            | Refusal::BadMaskCount => 1,
+            Refusal::TextTooLong
+            | Refusal::TooManyTexts
+            | Refusal::HitsTooShort
+            | Refusal::UnknownPattern => 2,
             _ => 3,
         }
     }

@@ -4,6 +4,7 @@ ghost use Rattle.pattern.specs.Closed.{book_of, order_in};
 ghost use Rattle.tables.specs.Buckets.{Alike, leader, bucket_of};
 
 use pattern::book::Book;
+use pattern::patterns::methods::{MAX_MASKS, MAX_PATTERNS};
 use rules::primitives::{PatternID, SmallIndex};
 use std::array;
 
@@ -25,7 +26,7 @@ fn same_front(a: &[u8], b: &[u8], n: usize) -> bool
 fn leader_of(book: &Book, pattern: &[u8]) -> usize
     ensures { result ≡ leader (book_of book.now) (order_in book.now) pattern.now }
 {
-    let n = book.minimum_len().min(4);
+    let n = book.minimum_len().min(MAX_MASKS);
     book.order()
         .iter()
         .find(|id| same_front(book.get(**id), pattern, n))
@@ -42,7 +43,7 @@ fn bucket_of(book: &Book, id: PatternID) -> usize
 
 /// The bucket of each pattern, at its id; 0 at an index that is no id. The table has a fixed size, so that making it cannot
 /// refuse.
-pub fn assign(book: &Book) -> [usize; 1024]
+pub fn assign(book: &Book) -> [usize; MAX_PATTERNS]
     ensures { (i : ℕ) → slice_index result i ≡ (if nat_lt i (count_of (book_of book.now)) then bucket_of (book_of book.now) (order_in book.now) i else 0) }
 {
     array::from_fn(|i| {

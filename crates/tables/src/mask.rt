@@ -4,6 +4,7 @@ ghost use Rattle.tables.specs.Masks.{low_mask, high_mask};
 
 use crate::bucket::byte_at;
 use pattern::book::Book;
+use pattern::patterns::methods::MAX_PATTERNS;
 
 /// A mask as byte tables: for each low nybble, and for each high nybble, the buckets that it is admitted for, a digit each.
 #[derive(Clone, Copy)]
@@ -14,7 +15,7 @@ pub struct MaskTable {
 
 impl MaskTable {
     /// The mask of byte `j` of the patterns; `buckets` has the bucket of each id, modulo 8.
-    pub fn new(book: &Book, buckets: &[usize; 1024], j: usize) -> MaskTable
+    pub fn new(book: &Book, buckets: &[usize; MAX_PATTERNS], j: usize) -> MaskTable
         ensures lo { result.lo ≡ low_mask (book_of book.now) (order_in book.now) (λ i. slice_index buckets.now i % 8) j }
         ensures hi { result.hi ≡ high_mask (book_of book.now) (order_in book.now) (λ i. slice_index buckets.now i % 8) j }
     {
@@ -24,7 +25,7 @@ impl MaskTable {
 
     // Beside `new`, since it is proved by hand: an edit of the public function is to be refused at its own line.
     /// The tables of the low and of the high nybbles.
-    fn marked(book: &Book, buckets: &[usize; 1024], j: usize) -> ([u8; 16], [u8; 16])
+    fn marked(book: &Book, buckets: &[usize; MAX_PATTERNS], j: usize) -> ([u8; 16], [u8; 16])
         ensures lo { result.0 ≡ low_mask (book_of book.now) (order_in book.now) (λ i. slice_index buckets.now i % 8) j }
         ensures hi { result.1 ≡ high_mask (book_of book.now) (order_in book.now) (λ i. slice_index buckets.now i % 8) j }
     {

@@ -1,8 +1,8 @@
 ghost use Rattle.std.specs.Prelude.{◌≡◌};
+ghost use Rattle.std.specs.Rc.{rc_value};
 ghost use Rattle.rules.specs.Places.{AnswersAt};
 ghost use Rattle.pattern.specs.Closed.{book_of};
 ghost use Rattle.finder.specs.Plain.{searched};
-ghost use Rattle.std.proofs.Common.{rules};
 
 use crate::compare::verify;
 use crate::finder::Finder;
@@ -15,7 +15,7 @@ use std::rc::Rc;
 fn find_here(book: &Book, text: &[u8], start: usize) -> Option<Match>
     ensures { AnswersAt (book_of book.now) text.now start result }
 {
-    // The order table with its index, by a rule of the project.
+    // The order table with its index, of which the invariant speaks: a rule of the project.
     for (_i, id) in book.order().iter().enumerate() {
         if let Some(hit) = verify(book, *id, text, start) {
             return Some(hit);
@@ -36,7 +36,7 @@ impl Plain {
 impl Finder for Plain {
     ghost book = { λ x. searched x };
 
-    ghost within = { Prim.search rules };
+    ghost within = { λ x. (rc_value x.book).sound.within };
 
     fn pattern_count(&self) -> usize {
         self.book.len()
@@ -44,6 +44,7 @@ impl Finder for Plain {
 
     /// Tries place after place.
     fn find(&self, text: &[u8], at: usize) -> Option<Match> {
+        // A loop: `find_map` gets no proof here.
         for start in at..text.len() {
             if let Some(hit) = find_here(&self.book, text, start) {
                 return Some(hit);

@@ -1,10 +1,11 @@
 ghost use Rattle.std.specs.Prelude.{◌≡◌, map};
-ghost use Rattle.rules.specs.Book.{count_of, pattern, shortest};
+ghost use Rattle.rules.specs.Book.{count_of, pattern, shortest, bad_masks};
 ghost use Rattle.pattern.specs.Order.{number, ReadingOrder};
 ghost use Rattle.pattern.specs.Contents.{empty};
 ghost use Rattle.pattern.specs.Closed.{book_of, order_in};
 
 use crate::book::Book;
+use crate::patterns::methods::MAX_MASKS;
 use crate::table::Table;
 use rules::primitives::{MatchKind, PatternID};
 use std::alloc::Global;
@@ -44,6 +45,13 @@ impl Book {
         ensures { result ≡ (book_of self.now).kind }
     {
         self.table.kind
+    }
+
+    /// Whether a search with so many masks is not permitted: none, more than `MAX_MASKS`, or more than the shortest length.
+    pub fn misfits(&self, masks: usize) -> bool
+        ensures { result ≡ bad_masks (book_of self.now) masks }
+    {
+        masks == 0 || masks > MAX_MASKS || masks > self.minimum_len()
     }
 
     /// Every id, in the order in which the kind has patterns tried: a preferred one before the others.

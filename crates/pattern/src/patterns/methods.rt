@@ -16,6 +16,9 @@ pub const MAX_PATTERNS: usize = 1024;
 /// How many bytes the patterns of a book have together at the most.
 pub const MAX_BYTES: usize = 16384;
 
+/// How many masks a search uses at the most.
+pub const MAX_MASKS: usize = 4;
+
 impl Patterns {
     /// An open book without patterns, of the first kind.
     pub fn new(heap: Global) -> Patterns
@@ -80,7 +83,7 @@ impl Patterns {
         if self.book.len() == 0 {
             return Err(Refusal::NoPatterns.at(place));
         }
-        if masks == 0 || masks > 4 || masks > self.minimum_len() {
+        if self.book.misfits(masks) {
             return Err(Refusal::BadMaskCount.at(place));
         }
         Ok(())

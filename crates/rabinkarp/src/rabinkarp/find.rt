@@ -1,11 +1,9 @@
-ghost use Rattle.std.specs.Prelude.{◌≡◌, MatchOption};
-ghost use Rattle.rules.specs.Book.{pattern, shortest};
-ghost use Rattle.rules.specs.Search.{Stands, hit};
-ghost use Rattle.rules.specs.Places.{AnswersAt};
+ghost use Rattle.std.specs.Prelude.{◌≡◌};
+ghost use Rattle.rules.specs.Book.{shortest};
+ghost use Rattle.rules.specs.Places.{AnswersAt, Verified};
 ghost use Rattle.pattern.specs.Closed.{book_of};
 ghost use Rattle.hash.specs.Hash.{hash_of, window};
 ghost use Rattle.rabinkarp.specs.Searched.{shared, searched};
-ghost use Rattle.std.proofs.Common.{rules};
 
 use crate::rabinkarp::RabinKarp;
 use crate::rabinkarp::hashes::hashes;
@@ -45,7 +43,7 @@ impl RabinKarp {
     // Beside `find_here`, since that is proved by hand: an edit is to be refused at this line.
     /// The match of a pattern at a place, if its bytes stand there.
     fn verify(&self, id: PatternID, text: &[u8], start: usize) -> Option<Match>
-        ensures { MatchOption result (Stands (pattern (searched self.now) id.0.0) text.now start → ⊥) (λ m. Stands (pattern (searched self.now) id.0.0) text.now start × (m ≡ hit (searched self.now) id.0.0 start)) }
+        ensures { Verified (searched self.now) id.0.0 text.now start result }
     {
         verify(&self.book, id, text, start)
     }
@@ -70,7 +68,7 @@ impl RabinKarp {
 impl Finder for RabinKarp {
     ghost book = { λ x. searched x };
 
-    ghost within = { Prim.search rules };
+    ghost within = { λ x. (shared x).sound.within };
 
     fn pattern_count(&self) -> usize {
         self.book.len()
@@ -80,6 +78,7 @@ impl Finder for RabinKarp {
     fn find(&self, text: &[u8], at: usize) -> Option<Match> {
         let len = self.hash_len;
         let mut hash = hash(text.get(at..)?.get(..len)?);
+        // A loop by place: the hash moves on with it.
         for start in at..text.len() - len {
             if let Some(hit) = self.find_here(text, start, hash) {
                 return Some(hit);

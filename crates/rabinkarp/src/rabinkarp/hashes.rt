@@ -5,6 +5,7 @@ ghost use Rattle.rabinkarp.specs.Prefixes.{prefix_hash};
 
 use hash::hash;
 use pattern::book::Book;
+use pattern::patterns::methods::MAX_PATTERNS;
 use rules::primitives::PatternID;
 
 // Beside `hashes`, since that is proved by hand: an edit is to be refused at this line.
@@ -19,10 +20,10 @@ fn front_hash(book: &Book, id: PatternID) -> usize
 
 /// The hash of each pattern's first bytes, as many as the shortest pattern has, at its id. The table has a fixed size, so that
 /// making it cannot refuse.
-pub(crate) fn hashes(book: &Book) -> [usize; 1024]
+pub(crate) fn hashes(book: &Book) -> [usize; MAX_PATTERNS]
     ensures { (i : ℕ) → i < count_of (book_of book.now) → slice_index result i ≡ prefix_hash (book_of book.now) i }
 {
-    let mut hashes = [0; 1024];
+    let mut hashes = [0; MAX_PATTERNS];
     for id in book.order() {
         hashes[id.as_usize()] = front_hash(book, *id);
     }

@@ -1,9 +1,9 @@
 ghost use Rattle.std.specs.Prelude.{◌≡◌, ◌+◌, ◌≤◌, length};
 ghost use Rattle.rules.specs.Search.{found};
 ghost use Rattle.pattern.specs.Closed.{book_of};
+ghost use Rattle.rabinkarp.specs.Searched.{shared};
 ghost use Rattle.teddy.specs.Held.{nearest};
 ghost use Rattle.teddy.specs.Searched.{searched, mask_count};
-ghost use Rattle.std.proofs.Common.{rules};
 
 use crate::slim::Slim;
 use crate::teddy::Teddy;
@@ -73,7 +73,7 @@ impl<V: Vector> Slim<V> {
 impl<V: Vector> Finder for Slim<V> {
     ghost book = { λ x. searched x };
 
-    ghost within = { Prim.search rules };
+    ghost within = { λ x. (shared x.teddy.tables.rabinkarp).sound.within };
 
     fn pattern_count(&self) -> usize {
         self.teddy.tables.rabinkarp.pattern_count()

@@ -1,6 +1,5 @@
-ghost use Rattle.std.specs.Prelude.{◌≡◌, ◌<◌, map, MatchOption};
-ghost use Rattle.rules.specs.Book.{pattern};
-ghost use Rattle.rules.specs.Search.{Stands, hit};
+ghost use Rattle.std.specs.Prelude.{◌≡◌, ◌<◌, map};
+ghost use Rattle.rules.specs.Places.{Verified};
 ghost use Rattle.pattern.specs.Order.{number};
 ghost use Rattle.pattern.specs.Closed.{book_of};
 ghost use Rattle.buckets.specs.Buckets.{in_bucket};
@@ -14,6 +13,7 @@ use finder::compare::verify;
 use masks::candidate::Masks;
 use masks::mask::Mask;
 use pattern::book::Book;
+use pattern::patterns::methods::MAX_MASKS;
 use rabinkarp::rabinkarp::RabinKarp;
 use rules::primitives::{Match, PatternID};
 use std::rc::Rc;
@@ -25,7 +25,7 @@ use vector::vector::Vector;
 fn clamped(book: &Book, masks: usize) -> usize
     ensures { result ≡ nearest masks (book_of book.now) }
 {
-    masks.clamp(1, 4).min(book.minimum_len())
+    masks.clamp(1, MAX_MASKS).min(book.minimum_len())
 }
 
 impl Teddy {
@@ -81,7 +81,7 @@ impl Teddy {
     // Beside `windows`, since that is proved by hand: an edit is to be refused at this line.
     /// The match of a pattern at a place, if its bytes stand there.
     pub(crate) fn verify(&self, id: PatternID, text: &[u8], start: usize) -> Option<Match>
-        ensures { MatchOption result (Stands (pattern (book_in self.now.tables) id.0.0) text.now start → ⊥) (λ m. Stands (pattern (book_in self.now.tables) id.0.0) text.now start × (m ≡ hit (book_in self.now.tables) id.0.0 start)) }
+        ensures { Verified (book_in self.now.tables) id.0.0 text.now start result }
     {
         verify(self.tables.rabinkarp.book(), id, text, start)
     }

@@ -18,5 +18,5 @@ returns c i =
     let filled = c.from_fn.ensures.items in
     ⊎_elim
     (filled_at _ (λ k. cond (ltb k (count_of (book_of b))) (bucket k) 0) _ c.from_fn.result 0 1024 filled.each (λ k y q small called. search (rules, tests)) i 0 (omega arith))
-    (λ r. get_or_past c.from_fn.result i 0 (omega (arith, filled.long)) ∙ past (count_of (book_of b)) i (bucket i) (omega (arith, b.few)))
+    (λ r. get_or_past c.from_fn.result i 0 (omega (arith, filled.long)) ∙ past (count_of (book_of b)) i (bucket i) (omega (arith, b.sound.within.few)))
     (cases_lt i 1024)

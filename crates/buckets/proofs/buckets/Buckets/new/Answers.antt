@@ -7,7 +7,7 @@ pub group-requires : goal.group-requires
 group-requires c =
     let xs = c.order.result.now in
     let o = c.order.ensures.order in
-    let few = c.args.book.now.few in
+    let few = c.args.book.now.sound.within.few in
     record {
       few = omega (arith, o.long, few, length-map xs number);
       known = λ i l. omega (arith, o.known i (omega (arith, length-map xs number)), few);

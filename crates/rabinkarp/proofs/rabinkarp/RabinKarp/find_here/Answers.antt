@@ -12,7 +12,7 @@ opened : (c : After-bucket-id-items) → Opened c.args.self.now c.args.text.now 
 opened c = record { is = c.requires; same = c.bucket-id-items.ensures }
 
 small : (c : After-bucket-id-items) (i : ℕ) → i < length c.bucket-id-items.result.now → number (get_or c.bucket-id-items.result.now i (id 0)) < 1024
-small c i l = omega (arith, read_known (opened c) i l, (rc_value c.args.self.now.book).few)
+small c i l = omega (arith, read_known (opened c) i l, (rc_value c.args.self.now.book).sound.within.few)
 
 pub offset_bounds-self-as_usize : goal.offset_bounds-self-as_usize
 offset_bounds-self-as_usize c = omega (arith, c.as_usize.ensures, small (goal.at.offset_bounds-self-as_usize c).After-bucket-id-items c.loop-id.id-index c.loop-id-test.true)

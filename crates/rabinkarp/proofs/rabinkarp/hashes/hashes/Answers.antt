@@ -27,10 +27,10 @@ pub front_hash-requires : goal.front_hash-requires
 front_hash-requires c = known (goal.at.front_hash-requires c).In-loop-id
 
 pub offset_bounds-hashes-as_usize : goal.offset_bounds-hashes-as_usize
-offset_bounds-hashes-as_usize c = omega (arith, known (goal.at.offset_bounds-hashes-as_usize c).In-loop-id, c.args.book.now.few)
+offset_bounds-hashes-as_usize c = omega (arith, known (goal.at.offset_bounds-hashes-as_usize c).In-loop-id, c.args.book.now.sound.within.few)
 
 pub bounds-hashes-as_usize : goal.bounds-hashes-as_usize
-bounds-hashes-as_usize c = omega (arith, known (goal.at.bounds-hashes-as_usize c).In-loop-id, c.args.book.now.few)
+bounds-hashes-as_usize c = omega (arith, known (goal.at.bounds-hashes-as_usize c).In-loop-id, c.args.book.now.sound.within.few)
 
 pub loop-id-preserved : goal.loop-id-preserved
 loop-id-preserved c =
@@ -41,7 +41,7 @@ loop-id-preserved c =
     let v = c.as_usize.result in
     let is : v ≡ get_or ids k 0 = c.as_usize.ensures ∙ read c.order-id-items.result.now ids k c.order-id-items.ensures.same in
     let value : c.front_hash.result ≡ prefix_hash b v = c.front_hash.ensures ∙ ap (prefix_hash b) (sym c.as_usize.ensures) in
-    let small : v < 1024 = omega (arith, known (goal.at.loop-id-preserved c).In-loop-id, c.args.book.now.few) in
+    let small : v < 1024 = omega (arith, known (goal.at.loop-id-preserved c).In-loop-id, c.args.book.now.sound.within.few) in
     record {
       long = length-set hs v c.front_hash.result ∙ c.loop-id.invariant.long;
       hashed = λ j l. elim (cases_eq (get_or ids j 0) v) [

@@ -16,7 +16,7 @@ use Rattle.tables.proofs.mask.MaskTable.marked.Goals.{After-as_usize}
 known : (c : After-as_usize) → c.as_usize.result < 1024
 known c =
     let xs = c.order-id-items.result.now in
-    omega (arith, c.as_usize.ensures, get_or-map number xs c.loop-id.id-index (id 0), c.order-id-items.ensures.order.known c.loop-id.id-index (omega (arith, length-map xs number)), c.args.book.now.few)
+    omega (arith, c.as_usize.ensures, get_or-map number xs c.loop-id.id-index (id 0), c.order-id-items.ensures.order.known c.loop-id.id-index (omega (arith, length-map xs number)), c.args.book.now.sound.within.few)
 
 pub offset_bounds-buckets-as_usize : goal.offset_bounds-buckets-as_usize
 offset_bounds-buckets-as_usize c = omega (arith, known (goal.at.offset_bounds-buckets-as_usize c).After-as_usize)

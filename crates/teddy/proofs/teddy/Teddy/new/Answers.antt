@@ -14,7 +14,7 @@ invariant_of-result c =
     let said = rw e at c.assign-assigned.ensures in
     let count = rw e at c.clamped-count.ensures in
     record {
-      some = omega (arith, count, shortest_pos (book_of b) b.some);
+      some = omega (arith, count, shortest_pos (book_of b) b.sound.within.some);
       few = omega (arith, count);
       placed = placed_is b table said c.new-buckets.result (rw e at c.new-buckets.ensures);
       mask0 = mask_is b table said 0 c.new-first.result (rw e at c.new-first.ensures.lo) (rw e at c.new-first.ensures.hi);

@@ -12,4 +12,4 @@ loop-start-preserved c = passed_more (searched c.args.self.now) c.args.text.now 
 pub returns : goal.returns
 returns c =
     let b = rc_value c.args.self.now.book in
-    passed_all (searched c.args.self.now) c.args.text.now c.args.at c.loop-start.start record { some = b.some; few = b.few; short = b.short } (omega arith) c.loop-start.invariant
+    passed_all (searched c.args.self.now) c.args.text.now c.args.at c.loop-start.start b.sound.within (omega arith) c.loop-start.invariant

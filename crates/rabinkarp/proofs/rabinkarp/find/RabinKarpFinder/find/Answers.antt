@@ -27,7 +27,7 @@ next x t s h l e =
     ap (λ n. moved n x.hash_2pow (get_or t s 0) (get_or t (s + x.hash_len) 0)) e
     ∙ (ap (λ n. moved (hash_of (window t m s)) n (get_or t s 0) (get_or t (s + x.hash_len) 0)) (x.counted ∙ ap leading x.measured)
     ∙ (ap (λ n. moved (hash_of (window t m s)) (leading m) (get_or t s 0) (get_or t (s + n) 0)) x.measured
-    ∙ rolling t m s (shortest_pos (searched x) (rc_value x.book).some) (omega (arith, x.measured))))
+    ∙ rolling t m s (shortest_pos (searched x) (rc_value x.book).sound.within.some) (omega (arith, x.measured))))
 
 pub returns-in_err-get : goal.returns-in_err-get
 returns-in_err-get c = short c.args.self.now c.args.text.now c.args.at c.from_residual.result c.from_residual.ensures (omega (arith, c.in_err-get.ensures.lookup))

@@ -1,0 +1,46 @@
+-- Laws of a scan that docs/PROOFS.md names. No proof of a call needs them: they are cases of what the calls' contracts say.
+use Rattle.std.proofs.Common.{◌≡◌, ℕ, List, length, Ok, Err, Result, MatchResult, IfErr, sym, refl, ap, subst}
+use Rattle.rules.specs.declared.primitives.Match.{Match}
+use Rattle.rules.specs.declared.fault.Fault.{Fault}
+use Rattle.rules.specs.declared.fault.Refusal.{Refusal}
+use Rattle.rules.specs.Book.{Book, Within}
+use Rattle.rules.specs.Faults.{placed, told}
+use Rattle.rules.specs.Ledger.{starts, hits_of, scan_answer, hits_after, ask_scan, told_scan}
+use Rattle.rules.specs.History.{Past, then, Model, used_by, Counted}
+use Rattle.finder.specs.declared.finder.Finder.{Ghosts}
+use Rattle.intake.specs.declared.intake.Intake.{Intake}
+use Rattle.intake.specs.Intakes.{model, Serves, Scans}
+use Rattle.intake.proofs.Histories.{served_scan}
+
+-- no text, no hits
+pub hits_of_none : (b : Book) (i : ℕ) → hits_of (starts b) i ≡ 0
+hits_of_none b i = refl
+
+-- a refusal leaves the list
+pub hits_refused : (b : Book) (t : List ℕ) (hs : List Match) (k : Refusal) → hits_after {X = ℕ} b t hs (Err k) ≡ hs
+hits_refused b t hs k = refl
+
+-- a fault is at the place that was handed in
+pub placed_at : (at : ℕ) (x : Result ℕ Refusal) (r : Result ℕ Fault) → r ≡ placed at x → IfErr r (λ f. f.place ≡ at)
+placed_at at x r e = subst (λ y. IfErr y (λ f. f.place ≡ at)) (sym e) (here x)
+  where
+    here : (x : Result ℕ Refusal) → IfErr (placed at x) (λ f. f.place ≡ at)
+    here (Ok n) = tt
+    here (Err k) = refl
+
+-- an intake that scans has served the scan
+pub serves_scan : {F : Type 0} {g : Ghosts F} (book : F → Book) (p : Past) (x : Intake F g) (at : ℕ) (t : List ℕ) (hs : List Match) (r : Result ℕ Fault) (hs' : List Match) (x' : Intake F g) → Within (book x.finder) → Scans book x at t hs r hs' x' → Serves book p x → Serves book (then p (ask_scan t hs) (told_scan (told r) hs')) x'
+serves_scan book p x at t hs r hs' x' w d s = served_scan p at t hs hs' r (model book x) (model book x') w d.answer d.hits (done r d.after) s
+  where
+    done : (r : Result ℕ Fault) → MatchResult r (λ _. Counted (model book x) t (model book x')) (λ _. x' ≡ x) → MatchResult r (λ _. Counted (model book x) t (model book x')) (λ _. model book x' ≡ model book x)
+    done (Ok n) c = c
+    done (Err f) e = ap (model book) e
+
+-- a refusal alters nothing
+pub scan_refused : {F : Type 0} {g : Ghosts F} (book : F → Book) (x : Intake F g) (at : ℕ) (t : List ℕ) (hs : List Match) (r : Result ℕ Fault) (f : Fault) → r ≡ Err f → r ≡ placed at (scan_answer (book x.finder) (used_by (model book x)) t (length hs)) → Scans book x at t hs r hs x
+scan_refused book x at t hs r f e answer = record {
+  finder = refl;
+  answer = answer;
+  hits = sym (ap (hits_after (book x.finder) t hs) e);
+  after = subst (λ y. MatchResult y (λ _. Counted (model book x) t (model book x)) (λ _. x ≡ x)) (sym e) refl;
+}
