@@ -1,2 +1,4 @@
+pub mod Loops
+pub mod WordLanes
 pub mod Simd
 pub mod Words

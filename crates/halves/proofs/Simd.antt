@@ -15,9 +15,9 @@ use Rattle.std.proofs.lemmas.Bool.Decides.{nat_tests}
 use Rattle.vector.proofs.Words.{by_eight}
 use Rattle.vector.specs.Lanes.{lane, row, splatted, loaded, all_zero, anded, ored, compared, shifted_right_4, shuffled, number, lane64, byte_at}
 use Rattle.vector.proofs.Numbers.{and_assoc, number_past}
-use Rattle.vector.specs.Rows.{length-row, lane_row, row_is, row_ext}
+use Rattle.vector.proofs.Rows.{length-row, lane_row, row_is, row_ext}
 use Rattle.halves.specs.Words.{word_lanes}
-use Rattle.halves.specs.Loops.{or_is_zero}
+use Rattle.halves.proofs.Loops.{or_is_zero}
 
 zip2_row : (f : ℕ → ℕ → ℕ) (xs ys : List ℕ) → length xs ≡ 16 → length ys ≡ 16 → zip2 f xs ys ≡ row 16 (λ i. f (lane xs i) (lane ys i))
 zip2_row f xs ys lx ly = row_is 16 _ (zip2 f xs ys) (length-zip2 f xs ys (omega arith) ∙ lx) (λ k lt. get_or-zip2 f xs ys k 0 0 0 (omega arith) (omega arith))

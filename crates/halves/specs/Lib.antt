@@ -1,3 +1,2 @@
 pub mod Words
-pub mod WordsLemmas
-pub mod Loops
+pub mod Bounds

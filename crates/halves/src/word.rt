@@ -1,7 +1,7 @@
 //! A half as two words of 64 bits.
 ghost use Rattle.std.specs.Prelude.{◌≡◌};
 ghost use Rattle.halves.specs.Words.{held};
-ghost use Rattle.halves.specs.WordsLemmas.{words_long, words_bytes};
+ghost use Rattle.halves.specs.Bounds.{words_long, words_bytes};
 
 use crate::array::ArrayHalf;
 use std::simd::prelude::*;

@@ -5,7 +5,7 @@ use Rattle.std.proofs.lemmas.Bool.{cases_lt, cond-false, ne_eqb}
 use Rattle.std.proofs.lemmas.Bool.Decides.{nat_tests}
 use Rattle.bits.specs.Digits.{IsSet}
 use Rattle.vector.specs.Lanes.{lane, splatted, anded, shifted_in}
-use Rattle.vector.specs.Rows.{lane_row}
+use Rattle.vector.proofs.Rows.{lane_row}
 use Rattle.std.proofs.lemmas.Nat.Bits.{bit_at_ones}
 use Rattle.tables.proofs.Standing.{and_set}
 use Rattle.masks.specs.Candidates.{met, kept}

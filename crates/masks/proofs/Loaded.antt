@@ -3,7 +3,7 @@ use Rattle.std.proofs.Common.{◌≡◌, ℕ, ◌+◌, ◌*◌, ◌/◌, ◌%◌
 use lib.Bits.{bit_and}
 use Rattle.rules.specs.Book.{Book}
 use Rattle.vector.specs.Lanes.{lane, loaded}
-use Rattle.vector.specs.Rows.{lane_row}
+use Rattle.vector.proofs.Rows.{lane_row}
 use Rattle.tables.specs.Masks.{low_mask, high_mask}
 use Rattle.tables.specs.Rules.{Admits}
 use Rattle.tables.proofs.Standing.{masks_stand}

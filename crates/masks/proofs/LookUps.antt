@@ -4,7 +4,7 @@ use lib.Bits.{and_mask}
 use Rattle.std.proofs.lemmas.Bool.Decides.{nat_tests}
 use Rattle.vector.specs.Lanes.{lane, row, splatted, anded, shifted_right_4, shuffled}
 use Rattle.masks.specs.Members.{members}
-use Rattle.vector.specs.Rows.{lane_row, row_ext}
+use Rattle.vector.proofs.Rows.{lane_row, row_ext}
 
 pub low_nybbles : (n : ℕ) (xs : List ℕ) → anded n xs (splatted n 15) ≡ row n (λ i. lane xs i % 16)
 low_nybbles n xs = row_ext n _ _ (λ i h. rw (lane_row n (λ _. 15) i h) (and_mask (lane xs i) 4))

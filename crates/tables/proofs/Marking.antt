@@ -7,7 +7,7 @@ use Rattle.std.proofs.lemmas.List.Sums.{fold_more}
 use Rattle.std.proofs.lemmas.Bool.{cases_eq, cases_lt, eq-eqb, ne_eqb}
 use Rattle.bits.specs.Digits.{IsSet}
 use Rattle.vector.specs.Lanes.{lane, row}
-use Rattle.vector.specs.Rows.{row_is}
+use Rattle.vector.proofs.Rows.{row_is}
 use Rattle.tables.specs.Masks.{marks}
 
 -- a digit of x | y is one of either

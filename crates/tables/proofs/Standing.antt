@@ -4,7 +4,7 @@ use lib.Bits.{bit_and}
 use Rattle.std.proofs.lemmas.Nat.Bits.{bit_at_and, bit_at-zero}
 use Rattle.bits.specs.Digits.{IsSet}
 use Rattle.vector.specs.Lanes.{lane, row}
-use Rattle.vector.specs.Rows.{lane_row}
+use Rattle.vector.proofs.Rows.{lane_row}
 use Rattle.rules.specs.Book.{Book, pattern}
 use Rattle.tables.specs.Buckets.{Alike, front, leader}
 use Rattle.tables.specs.Masks.{byte_of, marks, low_mask, high_mask}

@@ -6,7 +6,7 @@ use Rattle.rules.specs.Book.{count_of}
 use Rattle.pattern.specs.declared.book.Book.{Book as Closed}
 use Rattle.pattern.specs.Closed.{book_of, order_in}
 use Rattle.vector.specs.Lanes.{row}
-use Rattle.vector.specs.Rows.{row_ext}
+use Rattle.vector.proofs.Rows.{row_ext}
 use Rattle.buckets.specs.declared.buckets.Buckets.{Buckets}
 use Rattle.buckets.specs.Buckets.{members, in_bucket, Holds}
 use Rattle.buckets.proofs.Members.{ordered, bucket_same}

@@ -1,3 +1,5 @@
 pub mod Numbers
 pub mod Words
+pub mod Rows
+pub mod Halves
 pub mod Doubled

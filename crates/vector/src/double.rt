@@ -3,7 +3,7 @@ ghost use Rattle.std.specs.Prelude.{◌≡◌, ◌≤◌, ◌++◌};
 ghost use Rattle.std.proofs.Common.{◌∙◌, arith, rules};
 ghost use Rattle.vector.specs.Lanes.{shifted_in};
 ghost use Rattle.std.proofs.lemmas.List.{length-append};
-ghost use Rattle.vector.specs.Halves.{bytes_join};
+ghost use Rattle.vector.specs.Bounds.{bytes_join};
 
 use crate::half::Half;
 use crate::vector::Vector;

@@ -1,6 +1,6 @@
 use Rattle.std.proofs.Common.{◌≡◌, ◌+◌, ◌%◌, ◌≤◌, ◌∙◌, ⊎_elim, rules, tests, arith}
 use Rattle.vector.specs.Lanes.{lane}
-use Rattle.vector.specs.Rows.{row_ext}
+use Rattle.vector.proofs.Rows.{row_ext}
 use Rattle.tables.proofs.Filled.{filled_at}
 use Rattle.masks.proofs.mask.load_table.Goals as goal
 

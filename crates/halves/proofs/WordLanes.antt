@@ -8,27 +8,17 @@ use Rattle.std.proofs.lemmas.Bool.{cases_lt, cases_Bool}
 use Rattle.std.proofs.lemmas.Bool.Decides.{nat_tests}
 use Rattle.vector.specs.Lanes.{lane, row, splatted, anded, ored, shifted_right_4, number, lane64, all_zero, byte_at}
 use Rattle.halves.specs.Words.{word_lanes}
-use Rattle.vector.specs.Rows.{length-row, lane_row, row_is, row_ext}
+use Rattle.halves.specs.Bounds.{words_long}
+use Rattle.vector.proofs.Rows.{length-row, lane_row, row_is, row_ext}
 use Rattle.vector.proofs.Numbers.{zero_from, zero_to, number_past}
 use Rattle.vector.proofs.Words.{by_eight, number_of_bytes, byte_of_number}
-use Rattle.halves.specs.Loops.{or_is_zero}
+use Rattle.halves.proofs.Loops.{or_is_zero}
 
 pub byte_and : (a b j : ℕ) → byte_at (bit_and a b) j ≡ bit_and (byte_at a j) (byte_at b j)
 byte_and a b j = rw (and_shr a b (8 * j)) (and_mod (a / 2 ^ (8 * j)) (b / 2 ^ (8 * j)) 8)
 
 pub byte_or : (a b j : ℕ) → byte_at (bit_or a b) j ≡ bit_or (byte_at a j) (byte_at b j)
 byte_or a b j = rw (or_shr a b (8 * j)) (or_mod (a / 2 ^ (8 * j)) (b / 2 ^ (8 * j)) 8)
-
--- ---- two words
-pub words_long : (low high : ℕ) → length (word_lanes low high) ≡ 16
-words_long low high = length-row 16 _
-
-pub words_bytes : (low high i : ℕ) → lane (word_lanes low high) i < 256
-words_bytes low high i =
-    ⊎_elim
-    (λ (l : i < 16). rw (lane_row 16 (λ k. byte_at (cond (nat_lt k 8) low high) (k % 8)) i l) (omega arith))
-    (λ (r : 16 ≤ i). rw (get_or_past (word_lanes low high) i 0 (omega (arith, words_long low high))) (omega arith))
-    (cases_lt i 16)
 
 -- an operation on words that works byte by byte
 pub words_op : (op : ℕ → ℕ → ℕ) → ((a b j : ℕ) → byte_at (op a b) j ≡ op (byte_at a j) (byte_at b j)) → (a b c d : ℕ)

@@ -8,7 +8,7 @@ use Rattle.std.proofs.lemmas.List.Edits.{fill_by_more}
 use Rattle.std.proofs.lemmas.List.{length-set, take_more}
 use Rattle.std.proofs.lemmas.Bool.Decides.{nat_tests}
 use Rattle.vector.specs.Lanes.{lane, row, all_zero, number}
-use Rattle.vector.specs.Rows.{row_is}
+use Rattle.vector.proofs.Rows.{row_is}
 use Rattle.vector.proofs.Numbers.{zero-append, number_more, number_lt}
 
 -- an array of sixteen whose first i are those of f

@@ -5,7 +5,7 @@ use Rattle.std.proofs.lemmas.List.{length-append, get_or_append_left, get_or-app
 use Rattle.std.proofs.lemmas.Bool.{cases_lt}
 use Rattle.std.proofs.lemmas.Bool.Decides.{nat_tests}
 use Rattle.vector.specs.Lanes.{lane, row, splatted, loaded, anded, ored, compared, shifted_right_4, shifted_in, shuffled, number, lane64}
-use Rattle.vector.specs.Rows.{length-row, lane_row, row_is}
+use Rattle.vector.proofs.Rows.{length-row, lane_row, row_is}
 
 -- a row of 32 from two of 16
 pub row_join : (f g h : ℕ → ℕ) → ((i : ℕ) → i < 16 → g i ≡ f i) → ((i : ℕ) → i < 16 → h i ≡ f (16 + i)) → row 16 g ++ row 16 h ≡ row 32 f
@@ -31,13 +31,6 @@ pub lane_high : (a b : List ℕ) → length a ≡ 16 → (i : ℕ) → lane (a +
 lane_high a b e i =
     let m : (16 + i) - 16 ≡ i = omega arith in
     get_or-append_right a b 16 (16 + i) 0 e (omega arith) ∙ ap (lane b) m
-
-pub bytes_join : (a b : List ℕ) → length a ≡ 16 → ((i : ℕ) → lane a i < 256) → ((i : ℕ) → lane b i < 256) → (i : ℕ) → lane (a ++ b) i < 256
-bytes_join a b e p q i =
-    ⊎_elim
-    (λ (l : i < 16). rw (lane_low a b e i l) (p i))
-    (λ (r : 16 ≤ i). rw (get_or-append_right a b 16 i 0 e r) (q (i - 16)))
-    (cases_lt i 16)
 
 -- the halves a, b of one vector and c, d of another
 module _ (a b c d : List ℕ) (la : length a ≡ 16) (lc : length c ≡ 16) where
