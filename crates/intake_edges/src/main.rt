@@ -11,7 +11,7 @@ use std::alloc::Global;
 use std::io;
 use std::rc::Rc;
 
-/// An entry that no scan writes.
+/// An entry that no scan writes. (Its id by fields: `From` is no constant.)
 const OLD: Match = Match {
     pattern: PatternID(SmallIndex(9)),
     start: 90,
@@ -21,8 +21,8 @@ const OLD: Match = Match {
 /// An intake for `A` and `BC`.
 fn intake_of(heap: Global) -> anyhow::Result<Intake<Plain>> {
     let mut patterns = Patterns::new(heap);
-    let _ = patterns.add(b"A");
-    let _ = patterns.add(b"BC");
+    patterns.add(b"A")?;
+    patterns.add(b"BC")?;
     let book = Rc::new(heap, patterns.close())?;
     Ok(Intake::new(Plain::new(book)))
 }

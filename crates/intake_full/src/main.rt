@@ -5,13 +5,15 @@
 use finder::plain::Plain;
 use intake::intake::{Intake, MAX_TEXTS};
 use pattern::patterns::Patterns;
+use rules::fault::Fault;
 use rules::primitives::{Match, PatternID};
 use std::io;
 use std::rc::Rc;
 
 const A: PatternID = PatternID::ZERO;
 
-/// A scan, and then the count and the tally. A crate for what this has in common with `intake_edges` would be longer.
+/// A scan, and then the count and the tally. `intake_edges` has one too, of a place and a list to print: only the printing of
+/// an answer is common.
 fn show_scan(
     rt: &HostRuntime,
     intake: &mut Intake<Plain>,
@@ -32,16 +34,17 @@ fn show_scan(
 }
 
 /// Has all texts but one accepted.
-fn fill(intake: &mut Intake<Plain>, hits: &mut [Match]) {
+fn fill(intake: &mut Intake<Plain>, hits: &mut [Match]) -> Result<(), Fault> {
     for _ in 0..MAX_TEXTS - 1 {
-        let _ = intake.scan(b"AA", hits);
+        intake.scan(b"AA", hits)?;
     }
+    Ok(())
 }
 
 fn main(rt: HostRuntime) -> anyhow::Result<()> {
     let heap = rt.alloc();
     let mut patterns = Patterns::new(heap);
-    let _ = patterns.add(b"A");
+    patterns.add(b"A")?;
     let mut intake = Intake::new(Plain::new(Rc::new(heap, patterns.close())?));
     let old = Match {
         pattern: A,
@@ -49,7 +52,7 @@ fn main(rt: HostRuntime) -> anyhow::Result<()> {
         end: 0,
     };
     let mut hits = vec![in heap; old; 2]?;
-    fill(&mut intake, &mut hits);
+    fill(&mut intake, &mut hits)?;
     // the last text that is accepted, and one more
     show_scan(&rt, &mut intake, b"AA", &mut hits)?;
     show_scan(&rt, &mut intake, b"AA", &mut hits)?;

@@ -10,6 +10,7 @@ use halves::word::WordHalf;
 use pattern::book::Book;
 use pattern::patterns::Patterns;
 use rabinkarp::rabinkarp::RabinKarp;
+use rules::fault::Fault;
 use std::alloc::Global;
 use std::rc::Rc;
 use std::time::Instant;
@@ -33,12 +34,12 @@ const PATTERNS: [&[u8]; 8] = [
 /// The letters of the text.
 const LETTERS: &[u8; 32] = b"ABCDEFGHIJKLMNOPQRSTUVWXYZ-- ...";
 
-fn book(heap: Global) -> Book {
+fn book(heap: Global) -> Result<Book, Fault> {
     let mut patterns = Patterns::new(heap);
     for pattern in PATTERNS {
-        let _ = patterns.add(pattern);
+        patterns.add(pattern)?;
     }
-    patterns.close()
+    Ok(patterns.close())
 }
 
 fn text(heap: Global) -> anyhow::Result<Vec<u8>> {
@@ -81,7 +82,7 @@ fn time_masks<V: Vector>(
 
 fn main(rt: HostRuntime) -> anyhow::Result<()> {
     let heap = rt.alloc();
-    let book = Rc::new(heap, book(heap))?;
+    let book = Rc::new(heap, book(heap)?)?;
     let text = text(heap)?;
     let text = text.as_slice();
     time(&rt, "rolling hash", &RabinKarp::new(book.clone()?), text)?;

@@ -3,6 +3,7 @@ ghost use Rattle.rules.specs.declared.fault.Refusal.TheVariants.{Memory};
 ghost use Rattle.rules.specs.Refusals.{number, layer, line};
 
 use std::alloc::{AllocError, AllocFailed};
+use std::error::Error;
 use std::fmt;
 
 /// Why a call was refused. The discriminants are the numbers that are reported.
@@ -84,6 +85,8 @@ pub struct Fault {
     pub refusal: Refusal,
     pub place: usize,
 }
+
+impl Error for Fault {}
 
 // Two impls with one body, since `?` meets both errors.
 impl From<AllocError> for Fault {

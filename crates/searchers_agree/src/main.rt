@@ -36,7 +36,7 @@ fn book_of(
     for _ in 0..shape.count {
         let len = shape.shortest.saturating_add(random.below(shape.spread));
         let bytes = random.letters(heap, len, shape.letters)?;
-        let _ = patterns.add(&bytes);
+        patterns.add(&bytes)?;
     }
     Ok(patterns.close())
 }
@@ -100,7 +100,7 @@ fn main(rt: HostRuntime) -> anyhow::Result<()> {
     println!(rt; "AC {}, BA {}", hash(b"AC"), hash(b"BA"))?;
 
     let mut patterns = Patterns::new(rt.alloc());
-    let _ = patterns.add(b"AC");
+    patterns.add(b"AC")?;
     let rolling = RabinKarp::new(Rc::new(rt.alloc(), patterns.close())?);
     let none = rolling.find(b"BA", 0).is_none();
     let some = rolling.find(b"BAC", 0).is_some();

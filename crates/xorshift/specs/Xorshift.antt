@@ -1,4 +1,6 @@
--- stepped x   the state after x: three shifts, each combined with what was shifted by exclusive or
+-- left k x    x, and by exclusive or x shifted to the left by k digits, of which 64 are kept
+-- right k x   the same to the right
+-- stepped x   the state after x
 use Rattle.std.specs.Prelude.{ℕ, ◌*◌, ◌/◌, ◌%◌, ◌^◌, bit_xor}
 
 abbrev pub left : ℕ → ℕ → ℕ
