@@ -1,7 +1,7 @@
 -- A job that is records in a row reads as those records.
-use Rattle.std.proofs.Common.{◌≡◌, ℕ, ◌+◌, ◌*◌, ◌/◌, ◌%◌, List, [], ◌∷◌, ◌++◌, length, get_or, take, drop, None, Ok, sym, refl, ap, ◌∙◌, append_assoc, append-nil, add-zero, arith, length-append}
+use Rattle.std.proofs.Common.{◌≡◌, ℕ, ◌+◌, ◌*◌, ◌/◌, ◌%◌, ◌<◌, List, [], ◌∷◌, ◌++◌, length, get_or, take, drop, None, Ok, sym, refl, ap, ◌∙◌, append_assoc, append-nil, add-zero, arith, length-append}
 use native.Mathlib.Nat.{mod-add-div}
-use Rattle.std.proofs.lemmas.List.{get_or-append-add, take_at, drop_at}
+use Rattle.std.proofs.lemmas.List.{get_or-append-add, get_or_append_left, take_at, drop_at}
 use Rattle.job.specs.Format.{Entry, pattern, first, longest, text, good, size, made_of, settled, step}
 use Rattle.job.specs.Format as format
 use Rattle.job.specs.Records.{item, put, reading}
@@ -27,6 +27,12 @@ made first = refl
 made longest = refl
 made (text t) = refl
 
+mark_long : (e : Entry) → length (mark e) ≡ 2
+mark_long (pattern p) = refl
+mark_long first = refl
+mark_long longest = refl
+mark_long (text t) = refl
+
 module _ (pre : List ℕ) (e : Entry) (rest : List ℕ) where
   abbrev at : ℕ
   at = length pre
@@ -38,41 +44,19 @@ module _ (pre : List ℕ) (e : Entry) (rest : List ℕ) where
   unfolding whole
   byte k = get_or-append-add pre (front e rest) k 0
 
-  first_byte : get_or whole at 0 ≡ get_or (mark e) 0 0
+  marked : (k : ℕ) → k < 2 → get_or whole (at + k) 0 ≡ get_or (mark e) k 0
   unfolding front
-  first_byte = ap (λ n. get_or whole n 0) (sym (add-zero at)) ∙ byte 0 ∙ here e
-    where
-      here : (x : Entry) → get_or (mark x ++ (length (body x) % 256 ∷ (length (body x) / 256 ∷ (body x ++ rest)))) 0 0 ≡ get_or (mark x) 0 0
-      here (pattern p) = refl
-      here first = refl
-      here longest = refl
-      here (text t) = refl
+  marked k l = byte k ∙ get_or_append_left (mark e) _ 0 k (omega (arith, mark_long e))
 
-  second_byte : get_or whole (at + 1) 0 ≡ get_or (mark e) 1 0
-  unfolding front
-  second_byte = byte 1 ∙ here e
-    where
-      here : (x : Entry) → get_or (mark x ++ (length (body x) % 256 ∷ (length (body x) / 256 ∷ (body x ++ rest)))) 1 0 ≡ get_or (mark x) 1 0
-      here (pattern p) = refl
-      here first = refl
-      here longest = refl
-      here (text t) = refl
+  first_byte : get_or whole at 0 ≡ get_or (mark e) 0 0
+  first_byte = ap (λ n. get_or whole n 0) (sym (add-zero at)) ∙ marked 0 (omega arith)
 
   size_is : size whole at ≡ length (body e)
   unfolding front
-  size_is = (λ i. (byte 2 ∙ low e) i + 256 * (byte 3 ∙ high e) i) ∙ mod-add-div (length (body e)) 256
+  size_is = (λ i. (byte 2 ∙ behind_mark 0) i + 256 * (byte 3 ∙ behind_mark 1) i) ∙ mod-add-div (length (body e)) 256
     where
-      low : (x : Entry) → get_or (mark x ++ (length (body x) % 256 ∷ (length (body x) / 256 ∷ (body x ++ rest)))) 2 0 ≡ length (body x) % 256
-      low (pattern p) = refl
-      low first = refl
-      low longest = refl
-      low (text t) = refl
-
-      high : (x : Entry) → get_or (mark x ++ (length (body x) % 256 ∷ (length (body x) / 256 ∷ (body x ++ rest)))) 3 0 ≡ length (body x) / 256
-      high (pattern p) = refl
-      high first = refl
-      high longest = refl
-      high (text t) = refl
+      behind_mark : (k : ℕ) → get_or (mark e ++ (length (body e) % 256 ∷ (length (body e) / 256 ∷ (body e ++ rest)))) (2 + k) 0 ≡ get_or (length (body e) % 256 ∷ (length (body e) / 256 ∷ (body e ++ rest))) k 0
+      behind_mark k = ap (λ n. get_or (mark e ++ (length (body e) % 256 ∷ (length (body e) / 256 ∷ (body e ++ rest)))) (n + k) 0) (sym (mark_long e)) ∙ get_or-append-add (mark e) _ k 0
 
   -- the four bytes in front of the body
   head_is : front e rest ≡ (mark e ++ (length (body e) % 256 ∷ (length (body e) / 256 ∷ []))) ++ (body e ++ rest)
@@ -80,13 +64,7 @@ module _ (pre : List ℕ) (e : Entry) (rest : List ℕ) where
   head_is = sym (append_assoc (mark e) (length (body e) % 256 ∷ (length (body e) / 256 ∷ [])) (body e ++ rest))
 
   head_long : length (mark e ++ (length (body e) % 256 ∷ (length (body e) / 256 ∷ []))) ≡ 4
-  head_long = here e
-    where
-      here : (x : Entry) → length (mark x ++ (length (body x) % 256 ∷ (length (body x) / 256 ∷ []))) ≡ 4
-      here (pattern p) = refl
-      here first = refl
-      here longest = refl
-      here (text t) = refl
+  head_long = length-append (mark e) _ ∙ ap (λ n. n + 2) (mark_long e)
 
   behind : drop (at + 4) whole ≡ body e ++ rest
   unfolding whole
@@ -104,7 +82,7 @@ module _ (pre : List ℕ) (e : Entry) (rest : List ℕ) where
   step_written : step whole at ≡ good e (at + 4 + length (body e))
   step_written =
       step_whole whole at (omega (arith, size_is, long))
-      ∙ (λ i. settled (made_of (first_byte i) (second_byte i) (taken i)) (at + 4 + size_is i))
+      ∙ (λ i. settled (made_of (first_byte i) (marked 1 (omega arith) i) (taken i)) (at + 4 + size_is i))
       ∙ ap (λ r. settled r (at + 4 + length (body e))) (made e)
     where
       taken : format.body whole (length pre) ≡ body e

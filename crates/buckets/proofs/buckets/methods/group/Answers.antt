@@ -7,7 +7,7 @@ use Rattle.buckets.specs.Buckets.{in_bucket, below}
 use Rattle.buckets.proofs.Counts.{room, below_none, Filled, filled_yes, filled_no, filled_start, filled_end, starts_more}
 use Rattle.buckets.proofs.Slices.{finished, bucket_is, rising_of, within_of}
 use Rattle.buckets.proofs.buckets.methods.group.Goals as goal
-use Rattle.buckets.proofs.buckets.methods.group.Goals.{then-keys-as_usize, else-keys-as_usize}
+use Rattle.buckets.proofs.buckets.methods.group.Goals.{In-loop-id, then-keys-as_usize, else-keys-as_usize}
 
 pub loop-k-init : goal.loop-k-init
 loop-k-init c =
@@ -23,8 +23,11 @@ loop-k-init c =
 pub loop-id-init : goal.loop-id-init
 loop-id-init c = filled_start (λ id. get_or c.args.keys.now id 0 % 64) (map number c.args.order.now) c.loop-k.ids.items c.loop-k.k c.loop-k.invariant.all
 
+known : (c : In-loop-id) → number (get_or c.args.order.now c.loop-id.id-index (id 0)) < 1024
+known c = omega (arith, get_or-map number c.args.order.now c.loop-id.id-index (id 0), c.requires.known c.loop-id.id-index c.loop-id-test.true)
+
 pub bounds-keys-as_usize : goal.bounds-keys-as_usize
-bounds-keys-as_usize c = omega (arith, get_or-map number c.args.order.now c.loop-id.id-index (id 0), c.requires.known c.loop-id.id-index c.loop-id-test.true)
+bounds-keys-as_usize c = omega (arith, known (goal.at.bounds-keys-as_usize c).In-loop-id)
 
 pub push-requires : goal.push-requires
 push-requires c =
@@ -66,7 +69,7 @@ loop-k-preserved c =
     }
 
 pub offset_bounds-keys-as_usize : goal.offset_bounds-keys-as_usize
-offset_bounds-keys-as_usize c = omega (arith, get_or-map number c.args.order.now c.loop-id.id-index (id 0), c.requires.known c.loop-id.id-index c.loop-id-test.true)
+offset_bounds-keys-as_usize c = omega (arith, known (goal.at.offset_bounds-keys-as_usize c).In-loop-id)
 
 pub invariant_of-result : goal.invariant_of-result
 invariant_of-result c =
