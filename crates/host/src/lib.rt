@@ -33,13 +33,14 @@ pub fn find(
     ensures answer { Replies (called searcher masks (length out.old)) (answer job.now place (called searcher masks (length out.old))) result out.old out.new }
     ensures small { result ≡ 0 → SmallAnswer (answer job.now place (called searcher masks (length out.old))) }
 {
+    // A match: `map_or_else` would be no plainer.
     match reply(heap, job, place, searcher, masks, out) {
         Ok(()) => 0,
         Err(miss) => miss.number(),
     }
 }
 
-/// Writes the hit of a call.
+/// Writes the hit of a call, whose parameters these are.
 fn reply(
     heap: Global,
     job: &[u8],

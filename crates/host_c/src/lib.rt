@@ -7,8 +7,8 @@ ghost use Rattle.host.specs.Answer.{called, answer, SmallAnswer, Replies};
 
 use std::alloc::Global;
 
-/// Searches a job's first text from a place on: `host::find`, whose contract is stated again. A host program passes nothing
-/// for `heap`, and a pointer and a length for each of `job` and `out`.
+/// Searches a job's first text from a place on: `host::find`, whose contract is stated again, since a crate is a library or a
+/// static library. A host program passes nothing for `heap`, and a pointer and a length for each of `job` and `out`.
 #[unsafe(no_mangle)]
 pub extern "C" fn find(
     heap: Global,

@@ -86,6 +86,7 @@ pub fn make_and_serve<'a, F: Finder>(
     ensures served { MatchResult result (λ x. Serves F.book (following (opened (F.book finder)) (pairs (map asks calls.entry.items) (map tell x.replies.items))) x.intake) (λ x. Serves F.book (opened (F.book finder)) x.intake) }
 {
     let mut intake = Intake::new(finder);
+    // A match, since `intake` goes into either side.
     match serve_all(heap, &mut intake, calls) {
         Ok(replies) => Ok(Run { intake, replies }),
         Err(calls) => Err(Unserved { intake, calls }),

@@ -67,6 +67,7 @@ fn record_of<'a>(x: u8, y: u8, body: &'a [u8]) -> Result<Record<'a>, Refusal>
 fn bare<'a>(kind: Record<'a>, body: &[u8]) -> Result<Record<'a>, Refusal>
     ensures { entries result ≡ bare (entry kind.entry) body.now }
 {
+    // `then_some` and `ok_or` would be no plainer.
     if body.is_empty() {
         Ok(kind)
     } else {

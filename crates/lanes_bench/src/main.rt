@@ -34,6 +34,7 @@ const PATTERNS: [&[u8]; 8] = [
 /// The letters of the text.
 const LETTERS: &[u8; 32] = b"ABCDEFGHIJKLMNOPQRSTUVWXYZ-- ...";
 
+/// The book. (Each program that makes one has other patterns, and another error.)
 fn book(heap: Global) -> Result<Book, Fault> {
     let mut patterns = Patterns::new(heap);
     for pattern in PATTERNS {

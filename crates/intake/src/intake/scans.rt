@@ -75,7 +75,8 @@ impl<F: Finder> Intake<F> {
     }
 
     /// Scans a text, at the place 0 for callers without a job: its hits go to the front of `hits`, each raises its tally, and
-    /// the text counts as accepted. It answers the number of hits. A text that is too long, one too many or without room for its hits is refused, and nothing is altered.
+    /// the text counts as accepted. It answers the number of hits. A text that is too long, one too many or without room for
+    /// its hits is refused, and nothing is altered.
     pub fn scan(&mut self, text: &[u8], hits: &mut [Match]) -> Result<usize, Fault>
         ensures scans { Scans F.book self.old 0 text.now hits.old result hits.new self.new }
         ensures served { ServesCall F.book self.old (ask_scan text.now hits.old) (told_scan (told result) hits.new) self.new }

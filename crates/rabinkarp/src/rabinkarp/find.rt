@@ -54,6 +54,7 @@ impl RabinKarp {
         requires { hash ≡ hash_of (window text.now (shortest (searched self.now)) start) }
         ensures { AnswersAt (searched self.now) text.now start result }
     {
+        // A loop: with `filter` and `find_map` the check does not find the answer.
         for id in self.buckets.bucket(hash) {
             if self.hashes[id.as_usize()] == hash {
                 if let Some(hit) = self.verify(*id, text, start) {
