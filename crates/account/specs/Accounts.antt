@@ -17,7 +17,7 @@ use Rattle.rules.specs.Search.{id_of}
 use Rattle.rules.specs.Listing.{listing}
 use Rattle.rules.specs.Ledger.{hits_of, scan_answer}
 use Rattle.rules.specs.History.{Model, Counted, Keeps}
-use Rattle.pattern.specs.Entering.{refused}
+use Rattle.rules.specs.Faults.{refused}
 use Rattle.job.specs.Format.{pattern, first, longest, text}
 use Rattle.job.specs.Records.{Item, Reading, reading}
 use Rattle.job.specs.Opening.{texts, opened}

@@ -1,6 +1,6 @@
 -- text_of e              the text that a record holds
 -- text_in s              the text that a step reads
--- leading is             the text of the first record
+-- text_of_first is       the text of the first record
 -- first_text job         the first text of a job
 -- in_text b t place      what the search of a text comes to
 -- in_book d x t place    the same, where closing the book answered d and the searcher x is used
@@ -32,12 +32,12 @@ text_in over = None
 text_in (bad r) = None
 text_in (good e next) = text_of e
 
-abbrev pub leading : List Item → Option (List ℕ)
-leading [] = None
-leading (i ∷ is) = text_of i.entry
+abbrev pub text_of_first : List Item → Option (List ℕ)
+text_of_first [] = None
+text_of_first (i ∷ is) = text_of i.entry
 
 abbrev pub first_text : List ℕ → Option (List ℕ)
-first_text job = leading (texts (reading job 0)).items
+first_text job = text_of_first (texts (reading job 0)).items
 
 abbrev pub in_text : Book → Option (List ℕ) → ℕ → Result Match Miss
 in_text b None place = Err NoText

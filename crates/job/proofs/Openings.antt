@@ -4,7 +4,7 @@ use Rattle.rules.specs.declared.fault.Fault.{Fault}
 use Rattle.rules.specs.declared.fault.Refusal.{Refusal}
 use Rattle.rules.specs.Book.{Book}
 use Rattle.pattern.specs.Contents.{empty}
-use Rattle.pattern.specs.Entering.{refused}
+use Rattle.rules.specs.Faults.{refused}
 use Rattle.job.specs.Format.{Entry, pattern, first, longest, text, over, bad, good, step}
 use Rattle.job.specs.Records.{Reading, item, put, reading}
 use Rattle.job.specs.Opening.{is_text, heading, texts_from, texts, takes, and_then, fill, closes, closed_at, opening, Refuses}

@@ -2,10 +2,10 @@
 use Rattle.std.proofs.Common.{◌≡◌, ℕ, ◌+◌, ◌<◌, ◌≤◌, List, length, get_or, Ok, Err, Result, arith}
 use Rattle.std.proofs.lemmas.Bool.Decides.{nat_tests}
 use Rattle.rules.specs.declared.fault.Refusal.{Refusal}
-use Rattle.job.specs.Format.{Entry, over, good, size, body, made_of, settled, step}
+use Rattle.job.specs.Format.{Entry, over, good, size_at, body_at, made_of, settled, step}
 
 -- a record whose bytes are all there
-pub step_whole : (job : List ℕ) (at : ℕ) → at + 4 + size job at ≤ length job → step job at ≡ settled (made_of (get_or job at 0) (get_or job (at + 1) 0) (body job at)) (at + 4 + size job at)
+pub step_whole : (job : List ℕ) (at : ℕ) → at + 4 + size_at job at ≤ length job → step job at ≡ settled (made_of (get_or job at 0) (get_or job (at + 1) 0) (body_at job at)) (at + 4 + size_at job at)
 step_whole job at h = grind (arith, nat_tests)
 
 -- past the end there is nothing more

@@ -5,21 +5,21 @@ use Rattle.job.specs.declared.record.Placed.{Placed}
 use Rattle.job.specs.declared.record.Record.{Record}
 use Rattle.job.specs.declared.record.Record.TheVariants.{Pattern, First, Longest, Text}
 use Rattle.job.specs.Format.{over, bad, good, step}
-use Rattle.job.specs.Reading.{entry, told, placed}
+use Rattle.job.specs.Reading.{entry, as_step, place_in}
 use Rattle.job.specs.Opening.{is_text}
 
 module _ (job held : List ℕ) (at next : ℕ) (same : held ≡ job) where
-  pub told_some : (o : Option Placed) (p : Placed) → told (Ok o) next ≡ step held at → o ≡ Some p → step job at ≡ good (entry p.«record») next
-  told_some o p h is = sym (ap (λ j. step j at) same) ∙ sym h ∙ ap (λ x. told (Ok x) next) is
+  pub told_some : (o : Option Placed) (p : Placed) → as_step (Ok o) next ≡ step held at → o ≡ Some p → step job at ≡ good (entry p.«record») next
+  told_some o p h is = sym (ap (λ j. step j at) same) ∙ sym h ∙ ap (λ x. as_step (Ok x) next) is
 
-  pub told_none : (o : Option Placed) → told (Ok o) next ≡ step held at → o ≡ None → step job at ≡ over
-  told_none o h is = sym (ap (λ j. step j at) same) ∙ sym h ∙ ap (λ x. told (Ok x) next) is
+  pub told_none : (o : Option Placed) → as_step (Ok o) next ≡ step held at → o ≡ None → step job at ≡ over
+  told_none o h is = sym (ap (λ j. step j at) same) ∙ sym h ∙ ap (λ x. as_step (Ok x) next) is
 
-  pub told_bad : (f : Fault) → told (Err f) next ≡ step held at → step job at ≡ bad f.refusal
+  pub told_bad : (f : Fault) → as_step (Err f) next ≡ step held at → step job at ≡ bad f.refusal
   told_bad f h = sym (ap (λ j. step j at) same) ∙ sym h
 
-pub placed_some : (at : ℕ) (o : Option Placed) (p : Placed) → placed (Ok o) at ≡ at → o ≡ Some p → p.place ≡ at
-placed_some at o p h is = sym (ap (λ x. placed (Ok x) at) is) ∙ h
+pub placed_some : (at : ℕ) (o : Option Placed) (p : Placed) → place_in (Ok o) at ≡ at → o ≡ Some p → p.place ≡ at
+placed_some at o p h is = sym (ap (λ x. place_in (Ok x) at) is) ∙ h
 
 -- a record that is no text
 pub no_text : (r : Record) → ((x : Bor (List ℕ)) → r ≡ Text x → ⊥) → is_text (entry r) ≡ false

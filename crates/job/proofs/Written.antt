@@ -2,8 +2,7 @@
 use Rattle.std.proofs.Common.{◌≡◌, ℕ, ◌+◌, ◌*◌, ◌/◌, ◌%◌, ◌<◌, List, [], ◌∷◌, ◌++◌, length, get_or, take, drop, None, Ok, sym, refl, ap, ◌∙◌, append_assoc, append-nil, add-zero, arith, length-append}
 use native.Mathlib.Nat.{mod-add-div}
 use Rattle.std.proofs.lemmas.List.{get_or-append-add, get_or_append_left, take_at, drop_at}
-use Rattle.job.specs.Format.{Entry, pattern, first, longest, text, good, size, made_of, settled, step}
-use Rattle.job.specs.Format as format
+use Rattle.job.specs.Format.{Entry, pattern, first, longest, text, good, size_at, body_at, made_of, settled, step}
 use Rattle.job.specs.Records.{item, put, reading}
 use Rattle.job.specs.Written.{body, mark, written, job_of, items_of}
 use Rattle.job.proofs.Steps.{step_whole}
@@ -51,7 +50,7 @@ module _ (pre : List ℕ) (e : Entry) (rest : List ℕ) where
   first_byte : get_or whole at 0 ≡ get_or (mark e) 0 0
   first_byte = ap (λ n. get_or whole n 0) (sym (add-zero at)) ∙ marked 0 (omega arith)
 
-  size_is : size whole at ≡ length (body e)
+  size_is : size_at whole at ≡ length (body e)
   unfolding front
   size_is = (λ i. (byte 2 ∙ behind_mark 0) i + 256 * (byte 3 ∙ behind_mark 1) i) ∙ mod-add-div (length (body e)) 256
     where
@@ -85,7 +84,7 @@ module _ (pre : List ℕ) (e : Entry) (rest : List ℕ) where
       ∙ (λ i. settled (made_of (first_byte i) (marked 1 (omega arith) i) (taken i)) (at + 4 + size_is i))
       ∙ ap (λ r. settled r (at + 4 + length (body e))) (made e)
     where
-      taken : format.body whole (length pre) ≡ body e
+      taken : body_at whole (length pre) ≡ body e
       taken = (λ i. take (size_is i) (behind i)) ∙ take_at (body e) rest (length (body e)) refl
 
   written_long : length (pre ++ written e) ≡ at + 4 + length (body e)

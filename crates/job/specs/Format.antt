@@ -17,11 +17,11 @@ pub data Step : Type 0 where
   good : Entry → ℕ → Step
 
 -- the announced length, and the bytes behind it
-abbrev pub size : List ℕ → ℕ → ℕ
-size job at = slice_index job (at + 2) + 256 * slice_index job (at + 3)
+abbrev pub size_at : List ℕ → ℕ → ℕ
+size_at job at = slice_index job (at + 2) + 256 * slice_index job (at + 3)
 
-abbrev pub body : List ℕ → ℕ → List ℕ
-body job at = take (size job at) (drop (at + 4) job)
+abbrev pub body_at : List ℕ → ℕ → List ℕ
+body_at job at = take (size_at job at) (drop (at + 4) job)
 
 -- a kind record is empty
 abbrev pub bare : Entry → List ℕ → Result Entry Refusal
@@ -44,5 +44,5 @@ abbrev pub step : List ℕ → ℕ → Step
 step job at =
     cond (nat_le (length job) at) over
     (cond (nat_lt (length job) (at + 4)) (bad Truncated)
-    (cond (nat_lt (length job) (at + 4 + size job at)) (bad Truncated)
-    (settled (made_of (slice_index job at) (slice_index job (at + 1)) (body job at)) (at + 4 + size job at))))
+    (cond (nat_lt (length job) (at + 4 + size_at job at)) (bad Truncated)
+    (settled (made_of (slice_index job at) (slice_index job (at + 1)) (body_at job at)) (at + 4 + size_at job at))))

@@ -14,7 +14,8 @@ use Rattle.rules.specs.declared.primitives.MatchKind.TheVariants.{LeftmostFirst,
 use Rattle.rules.specs.Book.{Book, count_of}
 use Rattle.rules.specs.Entered.{enter}
 use Rattle.pattern.specs.Contents.{empty, of_kind}
-use Rattle.pattern.specs.Entering.{entering, refused}
+use Rattle.pattern.specs.Entering.{entering}
+use Rattle.rules.specs.Faults.{refused}
 use Rattle.job.specs.Format.{Entry, pattern, first, longest, text}
 use Rattle.job.specs.Records.{Item, Reading, reading}
 

@@ -3,7 +3,7 @@
 -- reading job at   what there is to read in a job from a place on
 use Rattle.std.specs.Prelude.{ℕ, zero, suc, ◌-◌, List, [], ◌∷◌, length, Some, None, Option}
 use Rattle.rules.specs.declared.fault.Fault.{Fault}
-use Rattle.pattern.specs.Entering.{refused}
+use Rattle.rules.specs.Faults.{refused}
 use Rattle.job.specs.Format.{Entry, over, bad, good, step}
 
 pub record Item : Type 0 where

@@ -1,6 +1,6 @@
 ghost use Rattle.std.specs.Prelude.{◌≡◌, OnErr};
 ghost use Rattle.job.specs.Format.{step, made_of, bare};
-ghost use Rattle.job.specs.Reading.{told, placed, entry, entries};
+ghost use Rattle.job.specs.Reading.{as_step, place_in, entry, entries};
 
 use crate::record::{Placed, Record};
 use rules::fault::{Fault, Refusal};
@@ -22,8 +22,8 @@ impl<'a> Reader<'a> {
 
     /// The next record, or none at the end. A fault leaves the reader where it is, so that as an iterator it would not end.
     pub fn next(&mut self) -> Result<Option<Placed<'a>>, Fault>
-        ensures step { told result self.new.at ≡ step self.old.job.now self.old.at }
-        ensures place { placed result self.old.at ≡ self.old.at }
+        ensures step { as_step result self.new.at ≡ step self.old.job.now self.old.at }
+        ensures place { place_in result self.old.at ≡ self.old.at }
         ensures job { self.new.job.now ≡ self.old.job.now }
         ensures stays { OnErr result (self.new.at ≡ self.old.at) }
     {

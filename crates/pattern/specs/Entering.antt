@@ -11,6 +11,7 @@ use Rattle.rules.specs.declared.fault.Refusal.TheVariants.{EmptyPattern, TooMany
 use Rattle.rules.specs.declared.primitives.PatternID.{PatternID}
 use Rattle.rules.specs.Book.{Book, id, count_of, total, bad_masks}
 use Rattle.rules.specs.Entered.{enter}
+use Rattle.rules.specs.Faults.{refused}
 use Rattle.pattern.specs.declared.patterns.Patterns.{Patterns}
 use Rattle.pattern.specs.Closed.{book_of}
 
@@ -22,9 +23,6 @@ entering b p =
     cond (length p == 0) (Some EmptyPattern)
     (cond (nat_le 1024 (count_of b)) (Some TooManyPatterns)
     (cond (nat_lt 16384 (total b + length p)) (Some TooManyBytes) None))
-
-abbrev pub refused : ℕ → Refusal → Fault
-refused at r = record { refusal = r; place = at }
 
 abbrev pub Enters : Book → ℕ → List ℕ → Result PatternID Fault → Book → Type 0
 Enters b at p r b' = MatchResult r

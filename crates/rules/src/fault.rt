@@ -1,6 +1,7 @@
 ghost use Rattle.std.specs.Prelude.{◌≡◌, Some};
 ghost use Rattle.rules.specs.declared.fault.Refusal.TheVariants.{Memory};
 ghost use Rattle.rules.specs.Refusals.{number, layer, line};
+ghost use Rattle.rules.specs.Faults.{refused};
 
 use std::alloc::{AllocError, AllocFailed};
 use std::error::Error;
@@ -70,7 +71,7 @@ impl Refusal {
 
     /// The refusal at a place of a job, or at 0 outside one.
     pub fn at(self, place: usize) -> Fault
-        ensures { result ≡ record { refusal = self; place = place } }
+        ensures { result ≡ refused place self }
     {
         Fault {
             refusal: self,
@@ -90,7 +91,7 @@ impl Error for Fault {}
 
 // Two impls with one body, since `?` meets both errors.
 impl From<AllocError> for Fault {
-    ghost from_gives = { λ _ r. r ≡ record { refusal = Memory; place = 0 } };
+    ghost from_gives = { λ _ r. r ≡ refused 0 Memory };
 
     fn from(_e: AllocError) -> Fault {
         Refusal::Memory.at(0)
@@ -98,7 +99,7 @@ impl From<AllocError> for Fault {
 }
 
 impl<T: Drop> From<AllocFailed<T>> for Fault {
-    ghost from_gives = { λ _ r. r ≡ record { refusal = Memory; place = 0 } };
+    ghost from_gives = { λ _ r. r ≡ refused 0 Memory };
 
     fn from(_e: AllocFailed<T>) -> Fault {
         Refusal::Memory.at(0)

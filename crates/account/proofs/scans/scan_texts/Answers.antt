@@ -4,7 +4,7 @@ use Rattle.rules.specs.declared.fault.Fault.{Fault}
 use Rattle.rules.specs.declared.fault.Refusal.TheVariants.{AfterText}
 use Rattle.rules.specs.Listing.{listing}
 use Rattle.rules.specs.History.{Keeps}
-use Rattle.pattern.specs.Entering.{refused}
+use Rattle.rules.specs.Faults.{refused}
 use Rattle.intake.specs.Intakes.{model}
 use Rattle.intake.proofs.Scans.{keeps_more}
 use Rattle.job.specs.Format.{text, good, step}

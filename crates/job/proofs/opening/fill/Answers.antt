@@ -1,7 +1,8 @@
 use Rattle.std.proofs.Common.{◌≡◌, length, Err, sym, ap, ◌∙◌, subst, inr, arith}
 use Rattle.std.proofs.lemmas.Result.{err_from_is_err_and}
 use Rattle.pattern.specs.Contents.{empty}
-use Rattle.pattern.specs.Entering.{open_of, refused}
+use Rattle.pattern.specs.Entering.{open_of}
+use Rattle.rules.specs.Faults.{refused}
 use Rattle.job.specs.Format.{good, step}
 use Rattle.job.specs.Reading.{entry}
 use Rattle.job.specs.Records.{reading}

@@ -2,7 +2,8 @@ use Rattle.std.proofs.Common.{◌≡◌, min, ltb, length, ap, ◌∙◌, subst,
 use Rattle.std.proofs.lemmas.Result.{err_from_is_err_and}
 use Rattle.std.proofs.lemmas.Bool.{cond-false, le-ltb}
 use Rattle.rules.specs.Book.{shortest}
-use Rattle.pattern.specs.Entering.{open_of, checking, refused}
+use Rattle.pattern.specs.Entering.{open_of, checking}
+use Rattle.rules.specs.Faults.{refused}
 use Rattle.pattern.proofs.Shortest.{shortest_pos}
 use Rattle.job.proofs.Closings.{closing_fault}
 use Rattle.job.proofs.opening.open.Goals as goal
