@@ -1,10 +1,8 @@
 -- line n m               a hit m of the text n
 -- scanned b n t          what a scan of the text t with room for 4,096 hits answers once n texts were accepted
 -- accepted b n is        the texts of the records is that are accepted: those up to the first that is no text or is refused
--- ended b n is s         the fault of that one, or else the fault s with which reading stops
+-- ended b n is s         the fault of the first record that is no text or whose text is refused; s where there is none
 -- lines_of b n ts        the hits of the texts ts, numbered from n on
--- Noted                  what scanning one text did
--- TextsServed            what scanning all texts that are left to read did
 -- Summed b ts s          the summary s is that of the texts ts: their number, and each pattern's hits in them
 -- Accounts job ls end    the account of a job: its lines, and the summary or the fault at its end
 use Rattle.std.specs.Prelude.{◌≡◌, ℕ, suc, ◌<◌, true, cond, ◌⊎◌, List, [], ◌∷◌, ◌++◌, map, length, is_ok, Some, None, Ok, Err, vec_items, codes, decimal, Option, Result, MatchResult, slice_index}
@@ -47,7 +45,8 @@ abbrev pub lines_of : Book → ℕ → List (List ℕ) → List Line
 lines_of b n [] = []
 lines_of b n (t ∷ ts) = map (line n) (listing b t) ++ lines_of b (suc n) ts
 
--- what scanning and noting one text at a place did: the answer is the intake's; a refusal alters nothing
+-- what scanning the text t at a place did: it answered r, ls became ls' and the intake m became m'. The answer is the intake's; a
+-- refusal alters nothing
 pub record Noted (m : Model) (ls : List Line) (at : ℕ) (t : List ℕ) (r : Result (Unit {0}) Fault) (ls' : List Line) (m' : Model) : Type 0 where
   pub book : m'.book ≡ m.book
   pub cases : MatchResult r (λ _. (is_ok (scanned m.book m.accepted t) ≡ true) × Counted m t m' × (ls' ≡ ls ++ map (line m.accepted) (listing m.book t))) (λ f. (m' ≡ m) × (ls' ≡ ls) × ((f.refusal ≡ Memory) ⊎ ((k : Refusal) × (scanned m.book m.accepted t ≡ Err k) × (f ≡ refused at k))))
@@ -61,6 +60,7 @@ TextsServed b r ls ls' (Ok m) =
     × (ls' ≡ ls ++ lines_of b 0 (accepted b 0 r.items))
 TextsServed b r ls ls' (Err f) = (f.refusal ≡ Memory) ⊎ ((ended b 0 r.items r.stop ≡ Some f) × (ls' ≡ ls ++ lines_of b 0 (accepted b 0 r.items)))
 
+-- the answer r, by what its intake holds
 abbrev pub modelled : {X : Type 0} → (X → Model) → Result X Fault → Result Model Fault
 modelled f (Ok x) = Ok (f x)
 modelled f (Err e) = Err e
@@ -70,12 +70,13 @@ pub record Summed (b : Book) (ts : List (List ℕ)) (s : Summary) : Type 0 where
   pub many : length (vec_items s.tallies) ≡ count_of b
   pub tallies : (i : ℕ) → i < count_of b → slice_index (vec_items s.tallies) i ≡ hits_of (record { book = b; texts = ts }) i
 
--- over the book of the job: the hits of the accepted texts, and then their summary or the fault that ended it
+-- over the book b: the hits of the accepted texts, and then their summary or the fault that ended it; or want of memory, and then
+-- nothing is said of the lines
 abbrev pub Sums : Book → Reading → List Line → Result Summary Fault → Type 0
 Sums b r ls (Ok s) = (ended b 0 r.items r.stop ≡ None) × (ls ≡ lines_of b 0 (accepted b 0 r.items)) × Summed b (accepted b 0 r.items) s
 Sums b r ls (Err f) = (f.refusal ≡ Memory) ⊎ ((ended b 0 r.items r.stop ≡ Some f) × (ls ≡ lines_of b 0 (accepted b 0 r.items)))
 
--- a job whose book is refused has no lines
+-- a job whose book is refused has no lines, unless memory lacked
 abbrev pub SumsOr : Result Book Fault → Reading → List Line → Result Summary Fault → Type 0
 SumsOr (Ok b) r ls end = Sums b r ls end
 SumsOr (Err f) r ls (Ok s) = ⊥
@@ -84,6 +85,6 @@ SumsOr (Err f) r ls (Err e) = (e.refusal ≡ Memory) ⊎ ((e ≡ f) × (ls ≡ [
 abbrev pub Accounts : List ℕ → List Line → Result Summary Fault → Type 0
 Accounts job ls end = SumsOr (opened job) (texts (reading job 0)) ls end
 
--- the decimals of a line
+-- the line of a hit as it is printed: its text, start, end and id in decimals
 abbrev pub shown_line : Line → List ℕ
 shown_line l = decimal l.text ++ (codes " " ++ (decimal l.hit.start ++ (codes " " ++ (decimal l.hit.end ++ (codes " " ++ decimal (id_of l.hit))))))

@@ -1,4 +1,4 @@
--- Laws of the word half: two words are sixteen lanes, each a byte.
+-- Laws of the word half, with their proofs, since the impl in src/ cites them: two words are sixteen lanes, each a byte.
 use Rattle.std.specs.Prelude.{◌≡◌, ℕ, ◌%◌, ◌<◌, ◌≤◌, cond, length, nat_lt}
 use Rattle.std.proofs.Common.{⊎_elim, arith}
 use Rattle.std.proofs.lemmas.List.{get_or_past}

@@ -1,7 +1,6 @@
 -- The lanes that two words of 64 bits hold.
---
---   word_lanes low high   the eight bytes of low, then those of high, each the lowest first
---   held h                the lanes of the word half h
+-- word_lanes low high   the eight bytes of low, then those of high, each the lowest first
+-- held h                the lanes of the word half h
 use Rattle.std.specs.Prelude.{ℕ, ◌%◌, cond, List, nat_lt}
 use Rattle.vector.specs.Lanes.{row, byte_at}
 use Rattle.halves.specs.declared.word.WordHalf.{WordHalf}

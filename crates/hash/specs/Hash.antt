@@ -1,10 +1,11 @@
 -- weighed bs         the sum of b_i × 2^(m − 1 − i) over the bytes b_0 to b_(m − 1)
 -- hash_of bs         the hash of bytes: that sum modulo 2^64
--- leading m          2^(m − 1) modulo 2^64, by which the first of m bytes counts
+-- leading m          2^(m − 1) modulo 2^64, by which the first of m bytes counts; 1 for m = 0
 -- minus a b          a − b modulo 2^64
 -- moved h w old new  the hash one byte further on: (h − old × w) × 2 + new modulo 2^64
 -- window t m s       the m bytes of the text t from the place s on
--- Rolling            for every text and length: moving on from a window's hash gives the hash of the next window
+-- Rolling            for every text, every length above 0 and every window that has a next one: moving on from its hash gives the
+--                    hash of the next one
 use Rattle.std.specs.Prelude.{◌≡◌, ℕ, ◌+◌, ◌-◌, ◌*◌, ◌%◌, ◌^◌, ◌<◌, List, [], ◌∷◌, length, take, drop, slice_index}
 
 abbrev pub weighed : List ℕ → ℕ

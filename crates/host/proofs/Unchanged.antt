@@ -15,7 +15,7 @@ use Rattle.job.specs.Opening.{heading, texts_from, takes, and_then, fill, closed
 use Rattle.host.specs.declared.miss.Miss.TheVariants.{Refused}
 use Rattle.host.specs.declared.searcher.Searcher.{Searcher}
 use Rattle.host.specs.Outcomes.{first_text, in_book, outcome}
-use Rattle.host.specs.Answer.{numbered, answer}
+use Rattle.host.specs.Answer.{by_number, answer}
 
 abbrev Opens : Result Book Fault → Type 0
 Opens (Ok b) = Unit {0}
@@ -73,4 +73,4 @@ not_memory (Err f) x t place never h = never f refl (cc)
 -- so a host is answered a refusal's number
 pub refusal_number : (job : List ℕ) (place : ℕ) (x : Searcher) (r : Refusal) → outcome job place x ≡ Err (Refused r) → answer job place (Some x) ≡ Err (number r)
 refusal_number job place x Memory h = absurd (not_memory (opened job) x (first_text job) place (never_memory job) h)
-refusal_number job place x r h = ap numbered h
+refusal_number job place x r h = ap by_number h

@@ -1,9 +1,10 @@
 -- What a host is answered.
 -- called s c n            the searcher of a call with the number s, the mask count c and a buffer of n bytes, if the call is in order
--- hit job place x         the hit, or else why there is none
+-- call_hit job place x    the hit, or else why there is none
+-- by_number r             the answer r, its reason by its number
 -- answer job place x      the hit, or else the number that is answered instead of it
 -- code d                  the number that the answer d has: 0 for a hit
--- after d old             the bytes of the buffer then: those of the hit, else the old ones
+-- buffer_after d old      the bytes of the buffer then: those of the hit, else the old ones
 -- SmallAnswer d           the numbers of a hit are small, so that four bytes hold each
 -- Replies x d r old new   the number r, and a buffer that held old and then new, are those of the answer d; a call in order may
 --                         also meet want of memory, which has the number 103 and writes nothing
@@ -20,28 +21,28 @@ use Rattle.host.specs.Written.{written}
 abbrev pub called : ℕ → ℕ → ℕ → Option Searcher
 called s c n = cond (n == 12) (searcher_of s c) None
 
-abbrev pub hit : List ℕ → ℕ → Option Searcher → Result Match Miss
-hit job place None = Err Miscalled
-hit job place (Some x) = outcome job place x
+abbrev pub call_hit : List ℕ → ℕ → Option Searcher → Result Match Miss
+call_hit job place None = Err Miscalled
+call_hit job place (Some x) = outcome job place x
 
-abbrev pub numbered : Result Match Miss → Result Match ℕ
-numbered (Ok m) = Ok m
-numbered (Err e) = Err (number_of e)
+abbrev pub by_number : Result Match Miss → Result Match ℕ
+by_number (Ok m) = Ok m
+by_number (Err e) = Err (number_of e)
 
 abbrev pub answer : List ℕ → ℕ → Option Searcher → Result Match ℕ
-answer job place x = numbered (hit job place x)
+answer job place x = by_number (call_hit job place x)
 
 abbrev pub code : Result Match ℕ → ℕ
 code (Ok m) = 0
 code (Err n) = n
 
-abbrev pub after : Result Match ℕ → List ℕ → List ℕ
-after (Ok m) old = written m
-after (Err n) old = old
+abbrev pub buffer_after : Result Match ℕ → List ℕ → List ℕ
+buffer_after (Ok m) old = written m
+buffer_after (Err n) old = old
 
 abbrev pub SmallAnswer : Result Match ℕ → Type 0
 SmallAnswer (Ok m) = Small m
 SmallAnswer (Err n) = Unit {0}
 
 abbrev pub Replies : Option Searcher → Result Match ℕ → ℕ → List ℕ → List ℕ → Type 0
-Replies x d r old new = ((r ≡ code d) × (new ≡ after d old)) ⊎ ((is_some x ≡ true) × (r ≡ 103) × (new ≡ old))
+Replies x d r old new = ((r ≡ code d) × (new ≡ buffer_after d old)) ⊎ ((is_some x ≡ true) × (r ≡ 103) × (new ≡ old))

@@ -3,9 +3,10 @@
 -- text_of_first is       the text of the first record
 -- first_text job         the first text of a job
 -- in_text b t place      what the search of a text comes to
--- in_book d x t place    the same, where closing the book answered d and the searcher x is used
+-- in_book d x t place    the refusal of d, where closing the book answered d; else 5 where the searcher x misfits; else what the search
+--                        comes to
 -- outcome job place x    the hit in a job's first text, or else why there is none: the first refusal up to that text goes first
--- TurnedDown d e         e is that of the defined answer d, or want of memory
+-- TurnedDown d e         e is the reason that the defined answer d gives, or want of memory
 -- Small m                the id, the start and the end of a match are those of a book and a text within the bounds
 use Rattle.std.specs.Prelude.{◌≡◌, ℕ, ◌<◌, ◌≤◌, cond, ◌⊎◌, List, [], ◌∷◌, Some, None, Ok, Err, Option, Result, ok_or}
 use Rattle.rules.specs.declared.fault.Fault.{Fault}

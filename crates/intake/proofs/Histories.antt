@@ -8,7 +8,7 @@ use Rattle.rules.specs.Book.{Book, Within, count_of}
 use Rattle.rules.specs.Listing.{Covers}
 use Rattle.rules.specs.Faults.{placed, numbered, told}
 use Rattle.rules.specs.Ledger.{State, starts, used, accepts, scan_answer, scan_of, hits_after, tally_answer, Asked, ask_scan, ask_tally, Told, told_scan, told_tally, tells, adds}
-use Rattle.rules.specs.History.{Event, after, Past, opened, then, state, Covered, ToldSo, Model, used_by, tally_in, Counted, Keeps, Served}
+use Rattle.rules.specs.History.{Event, after, Past, made_over, then, state, Covered, ToldSo, Model, used_by, tally_in, Counted, Keeps, Served}
 use Rattle.rules.proofs.Listings.{listing_covers}
 use Rattle.rules.proofs.Enters.{entered}
 use Rattle.intake.proofs.Scans.{accepted, hits_front, told_placed, hits_placed, keeps_more}
@@ -21,7 +21,7 @@ told_push : (s : State) (es : List Event) (e : Event) → ToldSo s es → e.told
 told_push s [] e h k c = (k, c, tt)
 told_push s (x ∷ es) e h k c = (h.0, h.1, told_push (adds s x.asked) es e h.2 k c)
 
-pub served_none : (b : Book) (m : Model) → m.book ≡ b → Keeps (starts b) m → Served (opened b) m
+pub served_none : (b : Book) (m : Model) → m.book ≡ b → Keeps (starts b) m → Served (made_over b) m
 served_none b m e k = record { told = tt; keeps = k; enters = entered m.book }
 
 -- what was told, what it covers and what is kept are all that is to show

@@ -1,7 +1,7 @@
 -- asks c            a call of the code, as the ledger is fed it
 -- tell r            a reply of the code, as the ledger tells it
 -- Outside r         a fault in the reply r is outside a job: its place is 0
--- pairs as ts       each call with what came back
+-- pairs cs ts       each call with what came back, as far as both lists go
 -- following p es    the past p, and then the events es
 use Rattle.std.specs.Prelude.{◌≡◌, List, [], ◌∷◌, ◌++◌, IfErr, vec_items}
 use Rattle.rules.specs.Faults.{told}

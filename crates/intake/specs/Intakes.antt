@@ -1,7 +1,9 @@
--- model book x                     what the intake x holds, over what its searcher means
+-- model book x                     what the intake x holds, where `book` says which book a searcher has
 -- Serves book p x                  what is true of the intake x after the past p
--- ServesCall book x a t x'         a call a made x to x' and told t: whatever past x has served, x' has served it and then that call
+-- ServesCall book x a t x'         the call a turned x into x' and came back with t: whatever past x has served, x' has served it and
+--                                  then that call
 -- Scans book x at t hs r hs' x'    a scan of t into the list hs answered r, faults at the place at: hs became hs' and x became x'
+-- `Ghosts F` is what a searcher of the type F gives as its ghost members; of these only `book` counts here.
 use Rattle.std.specs.Prelude.{◌≡◌, ℕ, List, length, Result, MatchResult}
 use Rattle.rules.specs.declared.primitives.Match.{Match}
 use Rattle.rules.specs.declared.fault.Fault.{Fault}

@@ -1,5 +1,5 @@
 ghost use Rattle.std.specs.Prelude.{◌≡◌, map, vec_len, All, MatchResult};
-ghost use Rattle.rules.specs.History.{Past, opened};
+ghost use Rattle.rules.specs.History.{Past, made_over};
 ghost use Rattle.intake.specs.Calls.{asks, tell, pairs, following, Outside};
 ghost use Rattle.intake.specs.Intakes.{Serves, ServesCall};
 
@@ -83,7 +83,7 @@ pub fn make_and_serve<'a, F: Finder>(
 ) -> Result<Run<F>, Unserved<'a, F>>
     ensures finder { MatchResult result (λ x. x.intake.finder ≡ finder) (λ x. x.intake.finder ≡ finder) }
     ensures replies { MatchResult result (λ x. (vec_len x.replies ≡ vec_len calls.entry) × All Outside x.replies.items) (λ x. x.calls.items ≡ calls.entry.items) }
-    ensures served { MatchResult result (λ x. Serves F.book (following (opened (F.book finder)) (pairs (map asks calls.entry.items) (map tell x.replies.items))) x.intake) (λ x. Serves F.book (opened (F.book finder)) x.intake) }
+    ensures served { MatchResult result (λ x. Serves F.book (following (made_over (F.book finder)) (pairs (map asks calls.entry.items) (map tell x.replies.items))) x.intake) (λ x. Serves F.book (made_over (F.book finder)) x.intake) }
 {
     let mut intake = Intake::new(finder);
     // A match, since `intake` goes into either side.

@@ -11,15 +11,17 @@ pub data Entry : Type 0 where
   longest : Entry
   text : List ℕ → Entry
 
+-- the end, a refusal, or a record and the place behind it
 pub data Step : Type 0 where
   over : Step
   bad : Refusal → Step
   good : Entry → ℕ → Step
 
--- the announced length, and the bytes behind it
+-- the length that a record announces
 abbrev pub size_at : List ℕ → ℕ → ℕ
 size_at job at = slice_index job (at + 2) + 256 * slice_index job (at + 3)
 
+-- the bytes behind it
 abbrev pub body_at : List ℕ → ℕ → List ℕ
 body_at job at = take (size_at job at) (drop (at + 4) job)
 
@@ -27,7 +29,7 @@ body_at job at = take (size_at job at) (drop (at + 4) job)
 abbrev pub bare : Entry → List ℕ → Result Entry Refusal
 bare e b = cond (length b == 0) (Ok e) (Err KindLength)
 
--- what a mark and the bytes of a record make: PN, KF, KL and TX are marks
+-- what a mark and the bytes of a record make. PN (80 78), KF (75 70), KL (75 76) and TX (84 88) are marks
 abbrev pub made_of : ℕ → ℕ → List ℕ → Result Entry Refusal
 made_of x y b =
     cond (x == 80 && y == 78) (Ok (pattern b))
@@ -36,6 +38,7 @@ made_of x y b =
     (cond (x == 84 && y == 88) (Ok (text b))
     (Err UnknownMark))))
 
+-- as a step, where the next record would stand at next
 abbrev pub settled : Result Entry Refusal → ℕ → Step
 settled (Ok e) next = good e next
 settled (Err r) next = bad r

@@ -1,9 +1,10 @@
 -- heading is       the records before the first text
 -- texts_from is    those from the first text on
--- takes b i        what a record before the texts does to the open book b
+-- takes b at e     what the record e at a place before the texts does to the open book b
 -- fill b is        the book after all of them, or the first refusal
 -- texts r          what is left to read from the first text on
 -- closes b at      closing the book b at a place
+-- opening b r n    the book after what is read, from the open book b on, of a job of n bytes
 -- opened job       the book of a job, closed at the first text or else at the job's end, or the first fault up to there
 -- Refuses d e      the fault e is the one of the defined answer d, or want of memory
 use Rattle.std.specs.Prelude.{◌≡◌, ℕ, Bool, true, false, cond, ◌⊎◌, List, [], ◌∷◌, length, Some, None, Ok, Err, Option, Result, ◌==◌, nat_lt}
@@ -47,6 +48,7 @@ takes b at first = Ok (of_kind LeftmostFirst b)
 takes b at longest = Ok (of_kind LeftmostLongest b)
 takes b at (text t) = Ok b
 
+-- what comes next, unless there was a fault
 abbrev pub and_then : Result Book Fault → (Book → Result Book Fault) → Result Book Fault
 and_then (Ok b) f = f b
 and_then (Err e) f = Err e

@@ -1,6 +1,7 @@
 -- entry r          what a record holds
 -- as_step r next   the answer of the reader as a step, where it then stands at next
--- place_in r at    the place that the answer names
+-- place_in r at    the place that the answer names; at where it names none
+-- entries r        the answer r, its record by what it holds
 use Rattle.std.specs.Prelude.{ℕ, Some, None, Ok, Err, Option, Result}
 use Rattle.rules.specs.declared.fault.Fault.{Fault}
 use Rattle.rules.specs.declared.fault.Refusal.{Refusal}
@@ -19,13 +20,11 @@ abbrev pub entries : Result Record Refusal → Result Entry Refusal
 entries (Ok r) = Ok (entry r)
 entries (Err e) = Err e
 
--- the answer as a step, where the reader then stands at a place
 abbrev pub as_step : Result (Option Placed) Fault → ℕ → Step
 as_step (Ok None) next = over
 as_step (Ok (Some p)) next = good (entry p.record) next
 as_step (Err e) next = bad e.refusal
 
--- and its place
 abbrev pub place_in : Result (Option Placed) Fault → ℕ → ℕ
 place_in (Ok None) at = at
 place_in (Ok (Some p)) at = p.place

@@ -17,9 +17,11 @@ pub record Reading : Type 0 where
   pub items : List Item
   pub stop : Option Fault
 
+-- no more records
 abbrev pub ends : Option Fault → Reading
 ends s = record { items = []; stop = s }
 
+-- one record before the others
 abbrev pub put : Item → Reading → Reading
 put i r = record { items = i ∷ r.items; stop = r.stop }
 

@@ -3,7 +3,7 @@
 -- mark e          its mark: PN, KF, KL or TX
 -- written e       a record: its mark, its length in two bytes, low byte first, and its bytes
 -- job_of es       the job of the records es
--- items_of at es  the records es, where the first one's mark stands at a place
+-- items_of at es  the records es with their places, the first one's mark standing at a place
 -- ReadsBack       a job that is records in a row, each of at most 65,535 bytes, reads as those records, with their places, up to its end
 use Rattle.std.specs.Prelude.{◌≡◌, ℕ, ◌+◌, ◌/◌, ◌%◌, ◌<◌, List, [], ◌∷◌, ◌++◌, All, length, None, codes}
 use Rattle.job.specs.Format.{Entry, pattern, first, longest, text}

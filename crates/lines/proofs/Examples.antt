@@ -16,12 +16,13 @@ lines = record {
   one = refl;
   two = refl;
   three = refl;
-  four = (refl, refl, refl);
-  five = refl;
+  four = (refl, refl, refl, refl);
+  five = (refl, refl);
   six = (refl, refl);
   seven = none_in_empty;
-  eight = refl;
+  eight = (refl, refl);
   nine = (refl, refl, refl);
+  nine_longest = (refl, refl, refl);
   ten = (refl, refl, refl);
   eleven = refl;
 }

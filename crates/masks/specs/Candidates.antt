@@ -4,7 +4,7 @@
 --                                before. Each mask but the last is shifted to the last one's lane
 -- candidates n means m seen xs   the candidates of the window xs
 -- kept count k old new           what the k-th mask leaves for the next window: what it admits now, unless it is the last of the
---                                count masks or lies behind it
+--                                count masks or lies behind it: then it leaves old
 use Rattle.std.specs.Prelude.{ℕ, zero, suc, cond, List, ◌==◌}
 use Rattle.vector.specs.Lanes.{shifted_in, anded}
 use Rattle.masks.specs.declared.candidate.Masks.{Masks}

@@ -1,4 +1,4 @@
--- book_of b    the book that a closed book is
+-- book_of b    the book of the rules that a closed book of the code, here Closed, holds
 -- order_in b   its ids in the order of its kind
 use Rattle.std.specs.Prelude.{ℕ, List}
 use Rattle.rules.specs.Book.{Book}

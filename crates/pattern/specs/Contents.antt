@@ -1,5 +1,5 @@
 -- contents t      the book that a table holds
--- empty           the book at the start
+-- empty           a new book: no patterns, first entered
 -- of_kind k b     the book b with the kind k
 -- longest t       the ids in the longest order
 -- reading t       the ids in the order in which patterns are tried: that of the kind
@@ -27,6 +27,7 @@ longest t = map number (vec_items t.order)
 abbrev pub entries : Table → List ℕ
 entries t = map number (vec_items t.entered)
 
+-- the one of the two orders that the kind reads
 abbrev pub order_of : MatchKind → List ℕ → List ℕ → List ℕ
 order_of LeftmostFirst first longest = first
 order_of LeftmostLongest first longest = longest

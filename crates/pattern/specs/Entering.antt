@@ -1,8 +1,8 @@
--- open_of p              the book that an open book holds
--- entering b p           the refusal that the pattern p meets, in checking order
--- Enters b place p r b'  what entering p at a place answers, and the book then: a refusal, and want of memory, alters nothing
--- checking b c           the refusal of a book that is to be closed and searched with c masks
--- Checks b place c r     what the call before closing answers
+-- open_of p           the book that an open book holds
+-- entering b p        the refusal that the pattern p meets, in checking order
+-- Enters b at p r b'  what entering p at a place answers, and the book then: a refusal, and want of memory, alters nothing
+-- checking b c        the refusal of a book that is to be closed and searched with c masks
+-- Checks b at c r     what the call before closing answers
 use Rattle.std.specs.Prelude.{◌≡◌, ℕ, ◌+◌, cond, List, length, Some, None, Option, Result, MatchOption, MatchResult, ◌==◌, nat_le, nat_lt}
 use Rattle.std.specs.Option.{unwrap_or}
 use Rattle.rules.specs.declared.fault.Fault.{Fault}

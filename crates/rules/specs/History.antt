@@ -1,14 +1,14 @@
 -- Calls of an intake in any order, from its making on, and what is true after them.
 -- Event            a call, and what came back
 -- after s es       the ledger's state after the events es
--- Past             what has been since the making of an intake: its first book, and the events
--- opened b         the past of an intake that was just made over the book b
+-- Past             what has been since the making of an intake: the book that it was made over, and the events
+-- made_over b      the past of an intake that was just made over the book b
 -- then p a t       the past p, and then the call a that came back with t
 -- state p          the ledger's state after the past p
 -- Covered b a t    the hits that an accepted text's list begins with cover the text
--- ToldSo s es      each event told what the ledger tells, and its hits cover its text under the book in force
+-- ToldSo s es      what came back of each call is what the ledger tells, and the hits of an accepted text cover it
 -- Model            what an intake holds
--- used_by m        how many of its texts count against the limit of 65,535
+-- used_by m        how many texts it has accepted, which is what the limit of 65,535 bounds
 -- tally_in m i     what a call for the tally of the pattern i answers
 -- Counted m t m'   m became m' as the text t was accepted: one text more, and each hit raised its tally
 -- Keeps s m        the intake m has what the ledger has in the state s
@@ -33,8 +33,8 @@ pub record Past : Type 0 where
   pub first : Book
   pub events : List Event
 
-abbrev pub opened : Book → Past
-opened b = record { first = b; events = [] }
+abbrev pub made_over : Book → Past
+made_over b = record { first = b; events = [] }
 
 abbrev pub then : Past → Asked → Told → Past
 then p a t = record { first = p.first; events = p.events ++ record { asked = a; told = t } ∷ [] }

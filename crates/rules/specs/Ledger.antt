@@ -1,10 +1,10 @@
 -- The ledger: a plain model of an intake. It is fed a book and the arguments of each call, keeps the texts accepted so far,
 -- and says what each call answers and what its list of hits then holds.
 -- hits_with i ms       how many of the hits ms are of the pattern i
--- State                the book in force, and the texts accepted so far
+-- State                the book, which no call changes, and the texts accepted so far
 -- starts b             the state at the making of an intake over the book b
 -- accepts s t          the state once the text t is accepted
--- used s               how many texts count against the limit of 65,535
+-- used s               how many texts were accepted, which is what the limit of 65,535 bounds
 -- hits_of s i          how many hits of the pattern i the listings of all its texts have
 -- scan_answer b n t k  what a scan of t into a list of k hits answers once n texts count: the first refusal that is due, else the number of hits
 -- hits_after b t hs r  what the list hs holds after a scan of t that answered r
@@ -64,6 +64,7 @@ pub data Told : Type 0 where
   told_scan : Result ℕ ℕ → List Match → Told
   told_tally : Result ℕ ℕ → Told
 
+-- what a scan of t into the list hs answers
 abbrev pub scan_of : State → List ℕ → List Match → Result ℕ Refusal
 scan_of s t hs = scan_answer s.book (used s) t (length hs)
 

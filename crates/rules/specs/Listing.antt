@@ -12,12 +12,12 @@ abbrev pub Lists : Book → List ℕ → ℕ → List Match → Type 0
 Lists b t at [] = found b t at ≡ None
 Lists b t at (m ∷ ms) = (found b t at ≡ Some m) × Lists b t m.end ms
 
--- the same list as a value, of at most n hits
+-- the hits from the place at on, of which there are at most n
 unfoldable pub hits_from : Book → List ℕ → ℕ → ℕ → List Match
 hits_from b t at zero = []
 hits_from b t at (suc n) = elim (found b t at) [ None ↦ [] | Some m ↦ m ∷ hits_from b t m.end n ]
 
--- each hit has a byte, so no more hits fit
+-- all of them: each hit has a byte, so no more fit
 unfoldable pub rest : Book → List ℕ → ℕ → List Match
 rest b t at = hits_from b t at (suc (length t) - at)
 

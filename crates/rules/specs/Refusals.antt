@@ -1,6 +1,6 @@
 -- number r   the number by which a refusal is reported
 -- layer r    the layer that refused: 1 the book, 2 the intake, 3 the job
--- line f      the line that reports a fault
+-- line f     the line that reports a fault
 -- Want of memory has the number 0 and the layer 0.
 use Rattle.std.specs.Prelude.{ℕ, List, ◌++◌, codes, decimal}
 use Rattle.rules.specs.declared.fault.Fault.{Fault}

@@ -1,9 +1,9 @@
 -- The buckets of the patterns of a book, which are taken in an order of their ids.
 -- Alike p q n         the first n low nybbles of p and q are equal
--- alike p q n         whether they are
+-- alike p q n         `Alike` as yes or no
 -- front b             how many low nybbles are compared: four, or the shortest length where that is less
--- leader b ids p      the first of ids whose pattern has the low nybbles of p
--- bucket_of b ids i   the bucket of the pattern i
+-- leader b ids p      the first of ids whose pattern has the low nybbles of p; 0 where none has
+-- bucket_of b ids i   the bucket of the pattern i: 7 less its leader modulo 8
 use Rattle.std.specs.Prelude.{◌≡◌, ℕ, zero, suc, ◌-◌, ◌%◌, ◌<◌, min, Bool, true, ◌&&◌, List, ◌==◌, slice_index, find, unwrap_or}
 use Rattle.rules.specs.Book.{Book, pattern, shortest}
 

@@ -1,6 +1,6 @@
 -- The masks of a book: for each nybble, a digit for each bucket. key i is the bucket of the pattern i.
 -- byte_of b j i             byte j of the pattern i; 0 past its end
--- marks key nybble n ids    the digits key i of all i of ids whose nybble is n
+-- marks key nybble n ids    the number in which the digit key i is set for each i of ids whose nybble is n
 -- low_mask b ids key j      mask j by low nybbles
 -- high_mask b ids key j     mask j by high nybbles
 use Rattle.std.specs.Prelude.{ℕ, ◌/◌, ◌%◌, ◌^◌, cond, List, fold, ◌==◌, bit_or, slice_index}

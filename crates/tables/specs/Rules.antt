@@ -20,6 +20,7 @@ Bears b ids key part j n k = (i : ℕ) × (i < length ids) × (key (slice_index 
 abbrev pub Admits : Book → List ℕ → (ℕ → ℕ) → ℕ → ℕ → ℕ → Type 0
 Admits b ids key j k x = Bears b ids key (λ y. y % 16) j (x % 16) k × Bears b ids key (λ y. y / 16) j (x / 16) k
 
+-- the buckets follow their rule, for every book and every order of its ids
 abbrev pub BucketsStand : Type 0
 BucketsStand = (b : Book) (ids : List ℕ) → BucketRule b ids (bucket_of b ids)
 

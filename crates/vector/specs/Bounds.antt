@@ -1,4 +1,5 @@
--- A law of the doubled vector: the lanes of two halves are bytes, as those of each are.
+-- A law of the doubled vector, with its proof, since the impl in src/ cites it: the lanes of two halves are bytes, as those of each
+-- are.
 use Rattle.std.specs.Prelude.{◌≡◌, ℕ, ◌-◌, ◌<◌, ◌≤◌, List, ◌++◌, length}
 use Rattle.std.proofs.Common.{⊎_elim, arith}
 use Rattle.std.proofs.lemmas.List.{get_or_append_left, get_or-append_right}

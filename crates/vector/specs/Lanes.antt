@@ -1,19 +1,18 @@
 -- What the lane operations mean, over lists of lanes, lane 0 first. n is the number of lanes.
---
---   lane xs i             lane i of xs; 0 past the last
---   row n f               the lanes f 0, f 1, .. f (n - 1)
---   splatted n b          b in every lane
---   loaded n s p          the bytes of s from the place p on; 0 past its end
---   all_zero xs           whether all lanes are 0
---   anded n xs ys         lane by lane, the bits that both have
---   ored n xs ys          lane by lane, the bits that one of them has
---   compared n xs ys      255 where the lanes are equal, and 0 elsewhere
---   shifted_right_4 n xs  each lane divided by 16
---   shifted_in k n xs ys  the last k lanes of ys, then the first of xs
---   shuffled n xs js      each lane of js, as an index into its own sixteen lanes of xs
---   number n xs p         the n lanes from p on as one number, low byte first
---   lane64 xs k           the k-th eight lanes as one number
---   byte_at w j            the j-th byte of the number w, the lowest first
+-- lane xs i             lane i of xs; 0 past the last
+-- row n f               the lanes f 0, f 1, .. f (n - 1)
+-- splatted n b          b in every lane
+-- loaded n s p          the bytes of s from the place p on; 0 past its end
+-- all_zero xs           whether all lanes are 0
+-- anded n xs ys         lane by lane, the bits that both have
+-- ored n xs ys          lane by lane, the bits that one of them has
+-- compared n xs ys      255 where the lanes are equal, and 0 elsewhere
+-- shifted_right_4 n xs  each lane divided by 16
+-- shifted_in k n xs ys  the last k lanes of ys, then the first of xs
+-- shuffled n xs js      for each lane of js the lane of xs that it names among its own sixteen
+-- number n xs p         the n lanes from p on as one number, low byte first
+-- lane64 xs k           the k-th eight lanes as one number
+-- byte_at w j           the j-th byte of the number w, the lowest first
 use Rattle.std.specs.Prelude.{ℕ, zero, suc, ◌+◌, ◌-◌, ◌*◌, ◌/◌, ◌%◌, ◌^◌, Bool, true, cond, ◌&&◌, List, [], ◌∷◌, map, ◌==◌, bit_and, bit_or, nat_lt, slice_index}
 use Rattle.std.specs.List.{range_with_len}
 

@@ -1,5 +1,5 @@
--- left k x    x, and by exclusive or x shifted to the left by k digits, of which 64 are kept
--- right k x   the same to the right
+-- left k x    x combined by exclusive or with x shifted left by k digits, of which 64 are kept
+-- right k x   the same with x shifted right
 -- stepped x   the state after x
 use Rattle.std.specs.Prelude.{ℕ, ◌*◌, ◌/◌, ◌%◌, ◌^◌, bit_xor}
 

@@ -1,7 +1,7 @@
 ghost use Rattle.std.specs.Prelude.{◌≡◌, length};
 ghost use Rattle.rules.specs.Faults.{placed, told};
 ghost use Rattle.rules.specs.Ledger.{ask_tally, told_tally};
-ghost use Rattle.rules.specs.History.{Past, opened, state, tally_in};
+ghost use Rattle.rules.specs.History.{Past, made_over, state, tally_in};
 ghost use Rattle.intake.specs.Intakes.{model, Serves, ServesCall};
 
 use crate::intake::Intake;
@@ -14,7 +14,7 @@ impl<F: Finder> Intake<F> {
     /// An intake that has accepted no text, with all tallies at 0.
     pub fn new(finder: F) -> Intake<F>
         ensures finder { result.finder ≡ finder }
-        ensures served { Serves F.book (opened (F.book finder)) result }
+        ensures served { Serves F.book (made_over (F.book finder)) result }
     {
         Intake {
             finder,
