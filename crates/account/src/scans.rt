@@ -1,4 +1,4 @@
-ghost use Rattle.std.specs.Prelude.{◌≡◌, ◌+◌, ◌≤◌, ◌++◌, map, length, vec_len, vec_capacity, MatchResult};
+ghost use Rattle.std.specs.Prelude.{◌≡◌, ◌+◌, ◌≤◌, ◌++◌, map, length, vec_len, vec_capacity};
 ghost use Rattle.intake.specs.Intakes.{model};
 ghost use Rattle.account.specs.Accounts.{line, Noted, TextsServed, modelled};
 ghost use Rattle.job.specs.Records.{reading};

@@ -6,7 +6,7 @@ use Rattle.rules.specs.declared.fault.Refusal.{Refusal}
 use Rattle.rules.specs.Book.{Book, Within}
 use Rattle.rules.specs.Faults.{placed, told}
 use Rattle.rules.specs.Ledger.{starts, hits_of, scan_answer, hits_after, ask_scan, told_scan}
-use Rattle.rules.specs.History.{Past, then, Model, used_by, Counted}
+use Rattle.rules.specs.History.{Past, then, used_by, Counted}
 use Rattle.finder.specs.declared.finder.Finder.{Ghosts}
 use Rattle.intake.specs.declared.intake.Intake.{Intake}
 use Rattle.intake.specs.Intakes.{model, Serves, Scans}

@@ -1,4 +1,4 @@
-ghost use Rattle.std.specs.Prelude.{◌≡◌, ℕ, ◌+◌, ◌^◌, ◌<◌, ◌≤◌, length, replicate, All, slice_index, slice_set};
+ghost use Rattle.std.specs.Prelude.{◌≡◌, ℕ, ◌+◌, ◌^◌, ◌<◌, length, replicate, All, slice_index, slice_set};
 ghost use Rattle.rules.specs.Search.{id_of};
 ghost use Rattle.rules.specs.Ledger.{hits_with};
 ghost use Rattle.intake.specs.Tallies.{tallies, sum};

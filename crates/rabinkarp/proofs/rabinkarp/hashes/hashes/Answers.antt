@@ -1,11 +1,9 @@
-use Rattle.std.proofs.Common.{◌≡◌, ◌<◌, length, get_or, take, set, sym, ap, ◌∙◌, subst, inl, inr, arith}
+use Rattle.std.proofs.Common.{◌≡◌, ◌<◌, length, get_or, set, sym, ap, ◌∙◌, subst, inl, inr, arith}
 use Rattle.std.proofs.lemmas.Bool.{cases_eq}
-use Rattle.std.proofs.lemmas.List.{length-map, length-set, length-take-le, get_or-set_same, get_or-set_other}
-use Rattle.rules.specs.Book.{id, count_of, pattern, shortest}
+use Rattle.std.proofs.lemmas.List.{length-map, length-set, get_or-set_same, get_or-set_other}
+use Rattle.rules.specs.Book.{id, count_of}
 use Rattle.pattern.specs.Order.{number, ReadingOrder}
 use Rattle.pattern.specs.Closed.{book_of, order_in}
-use Rattle.pattern.proofs.Shortest.{shortest_le}
-use Rattle.hash.specs.Hash.{hash_of}
 use Rattle.finder.proofs.Choosing.{read}
 use Rattle.rabinkarp.specs.Prefixes.{prefix_hash}
 use Rattle.rabinkarp.proofs.rabinkarp.hashes.hashes.Goals as goal
