@@ -4,8 +4,9 @@
     tests/jobs/compare-random.py PROGRAM [COUNT [SEED]]     from the repository's root, after `./pnscan examples/lamps.job`, which builds it
 
 PROGRAM is a command that reads a job on standard input and prints what pnscan is to print, for instance a pnscan over the
-Rust's searchers; the repository has none. Patterns and texts are drawn from few letters, so that hits, overlaps and equal hashes are common; one job in four
-is damaged: cut short, a byte changed, or a record put at another place. A job that differs is kept as differs-N.job.
+Rust's searchers; the repository has none. Patterns and texts are drawn from few letters, so that hits, overlaps and equal
+hashes are common; one job in four is damaged: cut short, a byte changed, or a record put at another place. A job that
+differs is kept as differs-N.job.
 """
 import random
 import shlex
