@@ -76,7 +76,7 @@ abbrev pub Sums : Book → Reading → List Line → Result Summary Fault → Ty
 Sums b r ls (Ok s) = (ended b 0 r.items r.stop ≡ None) × (ls ≡ lines_of b 0 (accepted b 0 r.items)) × Summed b (accepted b 0 r.items) s
 Sums b r ls (Err f) = (f.refusal ≡ Memory) ⊎ ((ended b 0 r.items r.stop ≡ Some f) × (ls ≡ lines_of b 0 (accepted b 0 r.items)))
 
--- a job whose book is refused has no lines, unless memory lacked
+-- a job whose book is refused has no lines, unless there was no memory
 abbrev pub SumsOr : Result Book Fault → Reading → List Line → Result Summary Fault → Type 0
 SumsOr (Ok b) r ls end = Sums b r ls end
 SumsOr (Err f) r ls (Ok s) = ⊥

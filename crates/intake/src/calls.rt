@@ -12,7 +12,7 @@ use std::alloc::Global;
 /// A call of an intake.
 #[derive(Drop)]
 pub enum Call<'a> {
-    /// A text, and a list for its hits.
+    /// A text, and a list for its hits, which every scan is asked with.
     Scan { text: &'a [u8], hits: Vec<Match> },
     /// The tally of a pattern.
     Tally(PatternID),

@@ -18,7 +18,8 @@ use std::alloc::Global;
 /// How many bytes a job has at the most.
 pub const MAX_JOB: usize = 65536;
 
-/// An open book with the records up to the first text, and the place of that text, or else the job's length.
+/// An open book with the records up to the first text, and the place of that text, or else the job's length: places are those in
+/// the whole job, which a fault names.
 #[derive(Drop)]
 struct Filled {
     patterns: Patterns,

@@ -4,8 +4,8 @@
 --                                    bytes only loaded ones are tested
 -- Shows admits c low n at t xs       in the n lanes xs of the window at a place, digit k of lane i is set exactly if the place that
 --                                    lies c - 1 before the lane's byte is a candidate for k
--- Recalls admits low n at t j xs     digit k of lane i of xs is set exactly if mask j admits k for the byte n places before the lane's, or
---                                    that byte was not loaded
+-- Recalls admits low n at t j xs     for each byte n places before a lane's: digit k of that lane of xs is set exactly if mask j admits k
+--                                    for the byte, or it was not loaded
 -- RecallsAll admits c low n at t p q r   the same of the first three masks, so far as a later one of the c follows
 -- Windowed admits c low n at t p q r xs p' q' r'   where p, q, r recall the bytes before the window, xs shows its candidates, and
 --                                    p', q', r' recall the bytes before the next one

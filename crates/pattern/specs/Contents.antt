@@ -1,5 +1,5 @@
 -- contents t      the book that a table holds
--- empty           a new book: no patterns, first entered
+-- empty           a new book: no patterns, of the kind first entered
 -- of_kind k b     the book b with the kind k
 -- longest t       the ids in the longest order
 -- reading t       the ids in the order in which patterns are tried: that of the kind

@@ -18,7 +18,7 @@ pub trait Vector: Copy {
     fn splat(byte: u8) -> Self
         ensures { lanes result ≡ splatted count byte };
 
-    /// The bytes of `s` from the place `at` on; a lane past the end is 0.
+    /// The bytes of `s` from the place `at` on (the Rust has a pointer for both); a lane past the end is 0.
     fn load(s: &[u8], at: usize) -> Self
         ensures { lanes result ≡ loaded count s.now at };
 

@@ -11,7 +11,7 @@ use finder::finder::Finder;
 use rules::fault::{Fault, Refusal};
 use rules::primitives::Match;
 
-// The hits of a text from a place on: a search from there, then from each hit's end.
+// The hits of a text from a place on: a search from there, then from each hit's end. A hit names its places in the whole text.
 #[derive(Drop)]
 struct Hits<'a, F: Finder> {
     finder: &'a F,
