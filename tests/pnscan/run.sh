@@ -9,7 +9,7 @@ tmp=$(mktemp -d)
 trap 'rm -rf "$tmp"' EXIT
 
 mkdir "$tmp/cases"
-cp "$root"/examples/*.job "$root"/crates/jobs/data/{fault_1[0-4],fault_4,fault_8}_*.job "$root"/crates/jobs/data/job_65536.job "$tmp/cases/"
+cp "$root"/examples/*.job "$root"/crates/jobs/data/{fault_1[0-4],fault_4,fault_8}_*.job "$root"/crates/jobs/data/{job_65536,apart,one_hit_covers,across_windows,tail,equal_hash,random_0,random_1}.job "$tmp/cases/"
 (cd "$root/crates/pnscan" && rt try --cases "$tmp/cases") >"$tmp/log" 2>&1 || true
 
 for job in "$tmp"/cases/*.job; do
