@@ -26,6 +26,7 @@ impl<'a> Reader<'a> {
         ensures place { place_in result self.old.at ≡ self.old.at }
         ensures job { self.new.job.now ≡ self.old.job.now }
         ensures stays { OnErr result (self.new.at ≡ self.old.at) }
+        ensures ends { result ≡ Ok None → self.new.at ≡ self.old.at }
     {
         let at = self.at;
         if self.job.len() <= at {
