@@ -1,13 +1,16 @@
 -- The opening of a job, record by record.
-use Rattle.std.proofs.Common.{◌≡◌, ℕ, ◌≤◌, false, List, length, Ok, Err, Result, sym, refl, ap, ◌∙◌, subst, inl, inr, arith}
+use Rattle.std.proofs.Common.{◌≡◌, ℕ, ◌≤◌, false, List, length, Some, None, Ok, Err, Option, Result, sym, refl, ap, ◌∙◌, subst, inl, inr, arith}
+use Rattle.std.specs.Option.{unwrap_or}
 use Rattle.rules.specs.declared.fault.Fault.{Fault}
 use Rattle.rules.specs.declared.fault.Refusal.{Refusal}
+use Rattle.rules.specs.declared.fault.Refusal.TheVariants.{Memory}
 use Rattle.rules.specs.Book.{Book}
 use Rattle.pattern.specs.Contents.{empty}
+use Rattle.pattern.specs.Entering.{entering}
 use Rattle.rules.specs.Faults.{refused}
 use Rattle.job.specs.Format.{Entry, pattern, first, longest, text, over, bad, good, step}
 use Rattle.job.specs.Records.{Reading, item, put, reading}
-use Rattle.job.specs.Opening.{is_text, heading, texts_from, texts, takes, and_then, fill, closes, closed_at, opening, Refuses}
+use Rattle.job.specs.Opening.{is_text, heading, texts_from, texts, entered_or, takes, and_then, fill, closes, closed_at, opening, Lacks, LacksAmong, Refuses}
 use Rattle.job.proofs.Steps.{step_end}
 use Rattle.job.proofs.Readings.{reading_good, reading_bad, reading_over}
 
@@ -28,26 +31,55 @@ texts_step at first r other = refl
 texts_step at longest r other = refl
 texts_step at (text t) r other = cc
 
+-- a pattern that is not entered is refused, or there is no memory for it
+pub lacks_or : (b : Book) (at : ℕ) (p : List ℕ) (f : Fault) → f ≡ refused at (unwrap_or (entering b p) Memory) → Refuses (takes b at (pattern p)) (Lacks b at (pattern p)) f
+lacks_or b at p f h = go (entering b p) refl h
+  where
+    go : (o : Option Refusal) → entering b p ≡ o → f ≡ refused at (unwrap_or o Memory) → Refuses (takes b at (pattern p)) (Lacks b at (pattern p)) f
+    go None is h = inr (is, h)
+    go (Some r) is h = inl (ap (entered_or b at p) is ∙ ap Err (sym h))
+
+-- want of memory for a record, and for one behind it
+pub lacks_here : (b : Book) (at : ℕ) (e : Entry) (r : Reading) (f : Fault) → Lacks b at e f → LacksAmong b (heading (put (item at e) r).items) f
+lacks_here b at (pattern p) r f h = inl h
+lacks_here b at first r f h = absurd h
+lacks_here b at longest r f h = absurd h
+lacks_here b at (text t) r f h = absurd h
+
+pub lacks_behind : (b c : Book) (at : ℕ) (e : Entry) (r : Reading) (f : Fault) → is_text e ≡ false → takes b at e ≡ Ok c → LacksAmong c (heading r.items) f → LacksAmong b (heading (put (item at e) r).items) f
+lacks_behind b c at (pattern p) r f other took h = inr (c, took, h)
+lacks_behind b c at first r f other took h = inr (c, took, h)
+lacks_behind b c at longest r f other took h = inr (c, took, h)
+lacks_behind b c at (text t) r f other took h = cc
+
 -- a fault of the record is the job's
-pub refuses_step : (b : Book) (at : ℕ) (e : Entry) (r : Reading) (n : ℕ) (f : Fault) → is_text e ≡ false → Refuses (takes b at e) f → Refuses (opening b (put (item at e) r) n) f
-refuses_step b at e r n f other (inl m) = inl m
-refuses_step b at e r n f other (inr d) = inr (opening_step b at e r n other ∙ ap (λ x. and_then x (λ c. opening c r n)) d)
+pub refuses_step : (b : Book) (at : ℕ) (e : Entry) (r : Reading) (n : ℕ) (f : Fault) → is_text e ≡ false → Refuses (takes b at e) (Lacks b at e) f → Refuses (opening b (put (item at e) r) n) (LacksAmong b (heading (put (item at e) r).items)) f
+refuses_step b at e r n f other (inl d) = inl (opening_step b at e r n other ∙ ap (λ x. and_then x (λ c. opening c r n)) d)
+refuses_step b at e r n f other (inr w) = inr (lacks_here b at e r f w)
 
 -- The loop that fills the book of a job: b is the book so far, and at is the place of the next record.
-module _ (job : List ℕ) (b : Book) (at : ℕ) (so_far : opening empty (reading job 0) (length job) ≡ opening b (reading job at) (length job)) (left : texts (reading job 0) ≡ texts (reading job at)) where
+module _ (job : List ℕ) (b : Book) (at : ℕ) (so_far : opening empty (reading job 0) (length job) ≡ opening b (reading job at) (length job)) (left : texts (reading job 0) ≡ texts (reading job at)) (starved : (f : Fault) → LacksAmong b (heading (reading job at).items) f → LacksAmong empty (heading (reading job 0).items) f) where
   pub fill_text : (t : List ℕ) (next : ℕ) → step job at ≡ good (text t) next → (opening empty (reading job 0) (length job) ≡ closes b at) × (reading job at ≡ texts (reading job 0))
   fill_text t next h =
       let is = reading_good job at next (text t) h in
       (so_far ∙ ap (λ r. opening b r (length job)) is, is ∙ sym (left ∙ ap texts is))
 
-  pub fill_again : (c : Book) (e : Entry) (next : ℕ) → step job at ≡ good e next → is_text e ≡ false → takes b at e ≡ Ok c → (opening empty (reading job 0) (length job) ≡ opening c (reading job next) (length job)) × (texts (reading job 0) ≡ texts (reading job next))
+  pub fill_again : (c : Book) (e : Entry) (next : ℕ) → step job at ≡ good e next → is_text e ≡ false → takes b at e ≡ Ok c → (opening empty (reading job 0) (length job) ≡ opening c (reading job next) (length job)) × (texts (reading job 0) ≡ texts (reading job next)) × ((f : Fault) → LacksAmong c (heading (reading job next).items) f → LacksAmong empty (heading (reading job 0).items) f)
   fill_again c e next h other took =
       let is = reading_good job at next e h in
-      (so_far ∙ ap (λ r. opening b r (length job)) is ∙ opening_step b at e (reading job next) (length job) other ∙ ap (λ x. and_then x (λ d. opening d (reading job next) (length job))) took, left ∙ ap texts is ∙ texts_step at e (reading job next) other)
+      (
+        so_far ∙ ap (λ r. opening b r (length job)) is ∙ opening_step b at e (reading job next) (length job) other ∙ ap (λ x. and_then x (λ d. opening d (reading job next) (length job))) took,
+        left ∙ ap texts is ∙ texts_step at e (reading job next) other,
+        λ f w. starved f (subst (λ (r : Reading). LacksAmong b (heading r.items) f) (sym is) (lacks_behind b c at e (reading job next) f other took w)),
+      )
 
-  pub fill_fault : (e : Entry) (next : ℕ) (f : Fault) → step job at ≡ good e next → is_text e ≡ false → Refuses (takes b at e) f → Refuses (opening empty (reading job 0) (length job)) f
+  pub fill_fault : (e : Entry) (next : ℕ) (f : Fault) → step job at ≡ good e next → is_text e ≡ false → Refuses (takes b at e) (Lacks b at e) f → Refuses (opening empty (reading job 0) (length job)) (LacksAmong empty (heading (reading job 0).items)) f
   fill_fault e next f h other r =
-      subst (λ d. Refuses d f) (sym (so_far ∙ ap (λ x. opening b x (length job)) (reading_good job at next e h))) (refuses_step b at e (reading job next) (length job) f other r)
+      let is = reading_good job at next e h in
+      elim (refuses_step b at e (reading job next) (length job) f other r) [
+        | inl d ↦ inl (so_far ∙ ap (λ x. opening b x (length job)) is ∙ d)
+        | inr w ↦ inr (starved f (subst (λ (x : Reading). LacksAmong b (heading x.items) f) (sym is) w))
+      ]
 
   pub fill_bad : (r : Refusal) → at ≤ length job → step job at ≡ bad r → opening empty (reading job 0) (length job) ≡ Err (refused at r)
   fill_bad r l h = so_far ∙ ap (λ x. opening b x (length job)) (reading_bad job at r l h)

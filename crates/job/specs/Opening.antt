@@ -6,8 +6,11 @@
 -- closes b at      closing the book b at a place
 -- opening b r n    the book after what is read, from the open book b on, of a job of n bytes
 -- opened job       the book of a job, closed at the first text or else at the job's end, or the first fault up to there
--- Refuses d e      the fault e is the one of the defined answer d, or want of memory
-use Rattle.std.specs.Prelude.{◌≡◌, ℕ, Bool, true, false, cond, ◌⊎◌, List, [], ◌∷◌, length, Some, None, Ok, Err, Option, Result, ◌==◌, nat_lt}
+-- Lacks b at e f        f is want of memory for the record e at a place, a pattern that the open book b takes
+-- LacksAmong b is f     f is want of memory for one of the records is, all before which the open book b has taken
+-- Starves job f         f is want of memory for one of the patterns before a job's first text
+-- Refuses d w f         the fault f is the one of the defined answer d, or want of memory as w says
+use Rattle.std.specs.Prelude.{◌≡◌, ℕ, ◌≤◌, Bool, true, false, cond, ◌⊎◌, List, [], ◌∷◌, length, Some, None, Ok, Err, Option, Result, ◌==◌, nat_lt}
 use Rattle.rules.specs.declared.fault.Fault.{Fault}
 use Rattle.rules.specs.declared.fault.Refusal.{Refusal}
 use Rattle.rules.specs.declared.fault.Refusal.TheVariants.{NoPatterns, JobTooLong, Memory}
@@ -73,5 +76,20 @@ opening b r n = and_then (fill b (heading r.items)) (λ c. closed_at c (texts_fr
 abbrev pub opened : List ℕ → Result Book Fault
 opened job = cond (nat_lt 65536 (length job)) (Err (refused 0 JobTooLong)) (opening empty (reading job 0) (length job))
 
-abbrev pub Refuses : {X : Type 0} → Result X Fault → Fault → Type 0
-Refuses d e = (e.refusal ≡ Memory) ⊎ (d ≡ Err e)
+abbrev pub Lacks : Book → ℕ → Entry → Fault → Type 0
+Lacks b at (pattern p) f = (entering b p ≡ None) × (f ≡ refused at Memory)
+Lacks b at first f = ⊥
+Lacks b at longest f = ⊥
+Lacks b at (text t) f = ⊥
+
+-- it is the first one, or the first one is taken and it is among the others
+abbrev pub LacksAmong : Book → List Item → Fault → Type 0
+LacksAmong b [] f = ⊥
+LacksAmong b (i ∷ is) f = Lacks b i.place i.entry f ⊎ ((c : Book) × (takes b i.place i.entry ≡ Ok c) × LacksAmong c is f)
+
+-- a job that is too long is refused before any memory is wanted
+abbrev pub Starves : List ℕ → Fault → Type 0
+Starves job f = (length job ≤ 65536) × LacksAmong empty (heading (reading job 0).items) f
+
+abbrev pub Refuses : {X : Type 0} → Result X Fault → (Fault → Type 0) → Fault → Type 0
+Refuses d w f = (d ≡ Err f) ⊎ w f

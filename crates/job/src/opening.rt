@@ -3,7 +3,7 @@ ghost use Rattle.pattern.specs.Closed.{book_of};
 ghost use Rattle.pattern.specs.Contents.{empty};
 ghost use Rattle.pattern.specs.Entering.{open_of};
 ghost use Rattle.job.specs.Records.{reading};
-ghost use Rattle.job.specs.Opening.{texts, takes, closes, opening, opened, Refuses};
+ghost use Rattle.job.specs.Opening.{heading, texts, takes, closes, opening, opened, Lacks, LacksAmong, Starves, Refuses};
 ghost use Rattle.job.specs.Reading.{entry};
 
 use crate::reader::Reader;
@@ -27,8 +27,9 @@ struct Filled {
 }
 
 /// A record before the texts.
+#[tactic(auto, using(crate::proofs::Openings::lacks_or))]
 fn take(patterns: &mut Patterns, place: usize, it: Record<'_>) -> Result<(), Fault>
-    ensures { MatchResult result (λ _. takes (open_of patterns.old) place (entry it.entry) ≡ Ok (open_of patterns.new)) (Refuses (takes (open_of patterns.old) place (entry it.entry))) }
+    ensures { MatchResult result (λ _. takes (open_of patterns.old) place (entry it.entry) ≡ Ok (open_of patterns.new)) (Refuses (takes (open_of patterns.old) place (entry it.entry)) (Lacks (open_of patterns.old) place (entry it.entry))) }
 {
     match it {
         Record::Pattern(bytes) => {
@@ -43,7 +44,7 @@ fn take(patterns: &mut Patterns, place: usize, it: Record<'_>) -> Result<(), Fau
 
 /// Enters the records up to the first text.
 fn fill(heap: Global, job: &[u8]) -> Result<Filled, Fault>
-    ensures { MatchResult result (λ f. (opening empty (reading job.now 0) (length job.now) ≡ closes (open_of f.patterns) f.at) × (reading job.now f.at ≡ texts (reading job.now 0))) (Refuses (opening empty (reading job.now 0) (length job.now))) }
+    ensures { MatchResult result (λ f. (opening empty (reading job.now 0) (length job.now) ≡ closes (open_of f.patterns) f.at) × (reading job.now f.at ≡ texts (reading job.now 0))) (Refuses (opening empty (reading job.now 0) (length job.now)) (LacksAmong empty (heading (reading job.now 0).items))) }
 {
     let mut patterns = Patterns::new(heap);
     let mut reader = Reader::new(job);
@@ -72,7 +73,7 @@ pub struct Opened<'a> {
 
 /// Reads a job up to its first text, and closes its book there, or else at the job's end.
 pub fn open<'a>(heap: Global, job: &'a [u8]) -> Result<Opened<'a>, Fault>
-    ensures { MatchResult result (λ o. (opened job.now ≡ Ok (book_of o.book)) × (o.texts.job.now ≡ job.now) × (reading job.now o.texts.at ≡ texts (reading job.now 0))) (Refuses (opened job.now)) }
+    ensures { MatchResult result (λ o. (opened job.now ≡ Ok (book_of o.book)) × (o.texts.job.now ≡ job.now) × (reading job.now o.texts.at ≡ texts (reading job.now 0))) (Refuses (opened job.now) (Starves job.now)) }
 {
     if job.len() > MAX_JOB {
         return Err(Refusal::JobTooLong.at(0));

@@ -27,7 +27,7 @@ fn find_here(book: &Book, text: &[u8], start: usize) -> Option<Match>
 impl Plain {
     /// A searcher over a closed book.
     pub fn new(book: Rc<Book>) -> Plain
-        ensures { searched result ≡ book_of book.value }
+        ensures { ⟦<Plain as Finder>⟧.book result ≡ book_of book.value }
     {
         Plain { book }
     }
@@ -37,6 +37,10 @@ impl Finder for Plain {
     ghost book = { λ x. searched x };
 
     ghost within = { λ x. (rc_value x.book).sound.within };
+
+    fn over(closed: Rc<Book>) -> Plain {
+        Plain::new(closed)
+    }
 
     fn pattern_count(&self) -> usize {
         self.book.len()

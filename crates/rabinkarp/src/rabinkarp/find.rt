@@ -18,7 +18,7 @@ use std::rc::Rc;
 impl RabinKarp {
     /// A searcher over a closed book. One of a book without patterns finds nothing.
     pub fn new(book: Rc<Book>) -> RabinKarp
-        ensures { searched result ≡ book_of book.value }
+        ensures { ⟦<RabinKarp as Finder>⟧.book result ≡ book_of book.value }
     {
         let hash_len = book.minimum_len();
         let hash_2pow = hash_2pow(hash_len);
@@ -70,6 +70,10 @@ impl Finder for RabinKarp {
     ghost book = { λ x. searched x };
 
     ghost within = { λ x. (shared x).sound.within };
+
+    fn over(closed: Rc<Book>) -> RabinKarp {
+        RabinKarp::new(closed)
+    }
 
     fn pattern_count(&self) -> usize {
         self.book.len()

@@ -11,6 +11,7 @@ use bits::take_lowest;
 use finder::finder::Finder;
 use masks::candidate::Seen;
 use pattern::book::Book;
+use pattern::patterns::methods::MAX_MASKS;
 use rules::primitives::Match;
 use std::marker::PhantomData;
 use std::rc::Rc;
@@ -20,7 +21,7 @@ impl<V: Vector> Slim<V> {
     /// A searcher over a closed book with `masks` masks; a count that is not permitted becomes the nearest one. One of a book
     /// without patterns finds nothing.
     pub fn new(book: Rc<Book>, masks: usize) -> Slim<V>
-        ensures book { searched result ≡ book_of book.value }
+        ensures book { ⟦<Slim<V> as Finder>⟧.book result ≡ book_of book.value }
         ensures masks { mask_count result ≡ nearest masks (book_of book.value) }
     {
         Slim {
@@ -74,6 +75,11 @@ impl<V: Vector> Finder for Slim<V> {
     ghost book = { λ x. searched x };
 
     ghost within = { λ x. (shared x.teddy.tables.rabinkarp).sound.within };
+
+    /// With as many masks as the book permits.
+    fn over(closed: Rc<Book>) -> Slim<V> {
+        Slim::new(closed, MAX_MASKS)
+    }
 
     fn pattern_count(&self) -> usize {
         self.teddy.tables.rabinkarp.pattern_count()

@@ -1,4 +1,4 @@
-use Rattle.std.proofs.Common.{◌≡◌, min, ltb, length, ap, ◌∙◌, subst, inr, MatchOption}
+use Rattle.std.proofs.Common.{◌≡◌, min, ltb, length, ap, ◌∙◌, subst, inl, MatchOption}
 use Rattle.std.proofs.lemmas.Result.{err_from_is_err_and}
 use Rattle.std.proofs.lemmas.Bool.{cond-false, le-ltb}
 use Rattle.rules.specs.Book.{shortest}
@@ -17,4 +17,4 @@ returns-in_err-check_at c =
     let masks : c.min.result ≡ min (shortest b) 4 = c.min.ensures ∙ ap (λ n. min n 4) c.minimum_len.ensures in
     let fault = subst (λ n. MatchOption (checking b n) ⊥ (λ x. e ≡ refused filled.at x)) masks c.in_err-check_at.ensures in
     rw (p.1, p.2)
-    (inr (cond-false (ltb 65536 (length c.args.job.now)) _ _ (le-ltb 65536 (length c.args.job.now) c.if-job-gt-MAX_JOB.false) ∙ c.in_ok-filled.ensures.0 ∙ closing_fault b filled.at e (shortest_pos b filled.patterns.book.sound.within.some) fault))
+    (inl (cond-false (ltb 65536 (length c.args.job.now)) _ _ (le-ltb 65536 (length c.args.job.now) c.if-job-gt-MAX_JOB.false) ∙ c.in_ok-filled.ensures.0 ∙ closing_fault b filled.at e (shortest_pos b filled.patterns.book.sound.within.some) fault))
