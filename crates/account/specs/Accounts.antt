@@ -3,9 +3,10 @@
 -- accepted b n is        the texts of the records is that are accepted: those up to the first that is no text or is refused
 -- ended b n is s         the fault of the first record that is no text or whose text is refused; s where there is none
 -- lines_of b n ts        the hits of the texts ts, numbered from n on
+-- CutShort b ts ls f     f is want of memory outside the job, and the lines ls are those of the first so many of the texts ts
 -- Summed b ts s          the summary s is that of the texts ts: their number, and each pattern's hits in them
 -- Accounts job ls end    the account of a job: its lines, and the summary or the fault at its end
-use Rattle.std.specs.Prelude.{◌≡◌, ℕ, suc, ◌<◌, true, cond, ◌⊎◌, List, [], ◌∷◌, ◌++◌, map, length, is_ok, Some, None, Ok, Err, vec_items, codes, decimal, Option, Result, MatchResult, slice_index}
+use Rattle.std.specs.Prelude.{◌≡◌, ℕ, suc, ◌<◌, true, cond, ◌⊎◌, List, [], ◌∷◌, ◌++◌, map, length, take, is_ok, Some, None, Ok, Err, vec_items, codes, decimal, Option, Result, MatchResult, slice_index}
 use Rattle.rules.specs.declared.fault.Fault.{Fault}
 use Rattle.rules.specs.declared.fault.Refusal.{Refusal}
 use Rattle.rules.specs.declared.fault.Refusal.TheVariants.{AfterText, Memory}
@@ -18,7 +19,7 @@ use Rattle.rules.specs.History.{Model, Counted, Keeps}
 use Rattle.rules.specs.Faults.{refused}
 use Rattle.job.specs.Format.{pattern, first, longest, text}
 use Rattle.job.specs.Records.{Item, Reading, reading}
-use Rattle.job.specs.Opening.{texts, opened}
+use Rattle.job.specs.Opening.{texts, opened, Starves}
 use Rattle.account.specs.declared.account.Line.{Line}
 use Rattle.account.specs.declared.account.Summary.{Summary}
 
@@ -49,16 +50,19 @@ lines_of b n (t ∷ ts) = map (line n) (listing b t) ++ lines_of b (suc n) ts
 -- refusal alters nothing
 pub record Noted (m : Model) (ls : List Line) (at : ℕ) (t : List ℕ) (r : Result (Unit {0}) Fault) (ls' : List Line) (m' : Model) : Type 0 where
   pub book : m'.book ≡ m.book
-  pub cases : MatchResult r (λ _. (is_ok (scanned m.book m.accepted t) ≡ true) × Counted m t m' × (ls' ≡ ls ++ map (line m.accepted) (listing m.book t))) (λ f. (m' ≡ m) × (ls' ≡ ls) × ((f.refusal ≡ Memory) ⊎ ((k : Refusal) × (scanned m.book m.accepted t ≡ Err k) × (f ≡ refused at k))))
+  pub cases : MatchResult r (λ _. (is_ok (scanned m.book m.accepted t) ≡ true) × Counted m t m' × (ls' ≡ ls ++ map (line m.accepted) (listing m.book t))) (λ f. (m' ≡ m) × (ls' ≡ ls) × (((k : Refusal) × (scanned m.book m.accepted t ≡ Err k) × (f ≡ refused at k)) ⊎ (f ≡ refused 0 Memory)))
 
--- the texts of a reading are scanned from the first on, over the book b: ls are the lines before, ls' those after. It answers
--- an intake, or the fault that ended it, or want of memory
-abbrev pub TextsServed : Book → Reading → List Line → List Line → Result Model Fault → Type 0
-TextsServed b r ls ls' (Ok m) =
+abbrev pub CutShort : Book → List (List ℕ) → List Line → Fault → Type 0
+CutShort b ts ls f = (f ≡ refused 0 Memory) × ((k : ℕ) × (ls ≡ lines_of b 0 (take k ts)))
+
+-- the texts of a reading are scanned from the first on, over the book b, and ls are the lines. It answers an intake, or the fault
+-- that ended it, or want of memory
+abbrev pub TextsServed : Book → Reading → List Line → Result Model Fault → Type 0
+TextsServed b r ls (Ok m) =
     (ended b 0 r.items r.stop ≡ None)
     × Keeps (record { book = b; texts = accepted b 0 r.items }) m
-    × (ls' ≡ ls ++ lines_of b 0 (accepted b 0 r.items))
-TextsServed b r ls ls' (Err f) = (f.refusal ≡ Memory) ⊎ ((ended b 0 r.items r.stop ≡ Some f) × (ls' ≡ ls ++ lines_of b 0 (accepted b 0 r.items)))
+    × (ls ≡ lines_of b 0 (accepted b 0 r.items))
+TextsServed b r ls (Err f) = ((ended b 0 r.items r.stop ≡ Some f) × (ls ≡ lines_of b 0 (accepted b 0 r.items))) ⊎ CutShort b (accepted b 0 r.items) ls f
 
 -- the answer r, by what its intake holds
 abbrev pub modelled : {X : Type 0} → (X → Model) → Result X Fault → Result Model Fault
@@ -70,20 +74,19 @@ pub record Summed (b : Book) (ts : List (List ℕ)) (s : Summary) : Type 0 where
   pub many : length (vec_items s.tallies) ≡ count_of b
   pub tallies : (i : ℕ) → i < count_of b → slice_index (vec_items s.tallies) i ≡ hits_of (record { book = b; texts = ts }) i
 
--- over the book b: the hits of the accepted texts, and then their summary or the fault that ended it; or want of memory, and then
--- nothing is said of the lines
+-- over the book b: the hits of the accepted texts, and then their summary or the fault that ended it; or want of memory
 abbrev pub Sums : Book → Reading → List Line → Result Summary Fault → Type 0
 Sums b r ls (Ok s) = (ended b 0 r.items r.stop ≡ None) × (ls ≡ lines_of b 0 (accepted b 0 r.items)) × Summed b (accepted b 0 r.items) s
-Sums b r ls (Err f) = (f.refusal ≡ Memory) ⊎ ((ended b 0 r.items r.stop ≡ Some f) × (ls ≡ lines_of b 0 (accepted b 0 r.items)))
+Sums b r ls (Err f) = ((ended b 0 r.items r.stop ≡ Some f) × (ls ≡ lines_of b 0 (accepted b 0 r.items))) ⊎ CutShort b (accepted b 0 r.items) ls f
 
--- a job whose book is refused has no lines, unless there was no memory
+-- a job whose book is refused has no lines
 abbrev pub SumsOr : Result Book Fault → Reading → List Line → Result Summary Fault → Type 0
 SumsOr (Ok b) r ls end = Sums b r ls end
-SumsOr (Err f) r ls (Ok s) = ⊥
-SumsOr (Err f) r ls (Err e) = (e.refusal ≡ Memory) ⊎ ((e ≡ f) × (ls ≡ []))
+SumsOr (Err f) r ls end = (end ≡ Err f) × (ls ≡ [])
 
+-- nor has one whose book there was no memory to fill
 abbrev pub Accounts : List ℕ → List Line → Result Summary Fault → Type 0
-Accounts job ls end = SumsOr (opened job) (texts (reading job 0)) ls end
+Accounts job ls end = SumsOr (opened job) (texts (reading job 0)) ls end ⊎ ((ls ≡ []) × MatchResult end (λ _. ⊥) (Starves job))
 
 -- the line of a hit as it is printed: its text, start, end and id in decimals
 abbrev pub shown_line : Line → List ℕ

@@ -1,4 +1,4 @@
-ghost use Rattle.std.specs.Prelude.{◌≡◌, ◌+◌, ◌≤◌, ◌++◌, map, length, vec_len, vec_capacity};
+ghost use Rattle.std.specs.Prelude.{◌≡◌, ◌+◌, ◌≤◌, ◌++◌, [], map, length, vec_len, vec_capacity};
 ghost use Rattle.intake.specs.Intakes.{model};
 ghost use Rattle.account.specs.Accounts.{line, Noted, TextsServed, modelled};
 ghost use Rattle.job.specs.Records.{reading};
@@ -54,7 +54,8 @@ pub(crate) fn scan_texts<F: Finder + Drop>(
     mut texts: Reader<'_>,
     lines: &mut Vec<Line>,
 ) -> Result<Intake<F>, Fault>
-    ensures { TextsServed (F.book finder) (reading texts.entry.job.now texts.entry.at) lines.old.items lines.new.items (modelled (model F.book) result) }
+    requires { lines.old.items ≡ [] }
+    ensures { TextsServed (F.book finder) (reading texts.entry.job.now texts.entry.at) lines.new.items (modelled (model F.book) result) }
 {
     let mut intake = Intake::new(finder);
     let mut hits = [BLANK; MAX_HITS];

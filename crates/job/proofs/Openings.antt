@@ -1,5 +1,5 @@
 -- The opening of a job, record by record.
-use Rattle.std.proofs.Common.{◌≡◌, ℕ, ◌≤◌, false, List, length, Some, None, Ok, Err, Option, Result, sym, refl, ap, ◌∙◌, subst, inl, inr, arith}
+use Rattle.std.proofs.Common.{◌≡◌, ℕ, ◌≤◌, false, List, [], ◌∷◌, length, Some, None, Ok, Err, Option, Result, sym, refl, ap, ◌∙◌, subst, inl, inr, arith}
 use Rattle.std.specs.Option.{unwrap_or}
 use Rattle.rules.specs.declared.fault.Fault.{Fault}
 use Rattle.rules.specs.declared.fault.Refusal.{Refusal}
@@ -9,8 +9,8 @@ use Rattle.pattern.specs.Contents.{empty}
 use Rattle.pattern.specs.Entering.{entering}
 use Rattle.rules.specs.Faults.{refused}
 use Rattle.job.specs.Format.{Entry, pattern, first, longest, text, over, bad, good, step}
-use Rattle.job.specs.Records.{Reading, item, put, reading}
-use Rattle.job.specs.Opening.{is_text, heading, texts_from, texts, entered_or, takes, and_then, fill, closes, closed_at, opening, Lacks, LacksAmong, Refuses}
+use Rattle.job.specs.Records.{Item, Reading, item, put, reading}
+use Rattle.job.specs.Opening.{is_text, heading, texts_from, texts, entered_or, takes, and_then, fill, closes, closed_at, opening, Lacks, LacksAmong, Starves, Refuses}
 use Rattle.job.proofs.Steps.{step_end}
 use Rattle.job.proofs.Readings.{reading_good, reading_bad, reading_over}
 
@@ -88,3 +88,18 @@ module _ (job : List ℕ) (b : Book) (at : ℕ) (so_far : opening empty (reading
   fill_over h =
       let is = reading_over job at (step_end job at h) in
       (so_far ∙ ap (λ r. opening b r (length job)) is, reading_over job (length job) (omega arith) ∙ sym (left ∙ ap texts is))
+
+-- what it lacks is memory
+pub lacks_memory : (b : Book) (is : List Item) (f : Fault) → LacksAmong b is f → f.refusal ≡ Memory
+lacks_memory b [] f w = absurd w
+lacks_memory b (i ∷ is) f (inl w) = here b i.place i.entry f w
+  where
+    here : (b : Book) (at : ℕ) (e : Entry) (f : Fault) → Lacks b at e f → f.refusal ≡ Memory
+    here b at (pattern p) f w = ap (λ (g : Fault). g.refusal) w.1
+    here b at first f w = absurd w
+    here b at longest f w = absurd w
+    here b at (text t) f w = absurd w
+lacks_memory b (i ∷ is) f (inr (c, took, w)) = lacks_memory c is f w
+
+pub open_memory : (job : List ℕ) (f : Fault) → Starves job f → f.refusal ≡ Memory
+open_memory job f w = lacks_memory empty (heading (reading job 0).items) f w.1

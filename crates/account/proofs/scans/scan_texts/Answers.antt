@@ -1,4 +1,5 @@
-use Rattle.std.proofs.Common.{◌≡◌, true, [], ◌∷◌, ◌++◌, map, length, is_ok, Some, Ok, Err, vec_items, sym, ap, ◌∙◌, subst, inl, inr, append_assoc, zero-add, arith}
+use Rattle.std.proofs.Common.{◌≡◌, true, [], ◌∷◌, ◌++◌, map, length, take, is_ok, Some, Ok, Err, vec_items, refl, sym, ap, ◌∙◌, subst, inl, inr, append_assoc, zero-add, arith}
+use Rattle.std.proofs.lemmas.List.{take_at}
 use Rattle.std.proofs.lemmas.Result.{err_from_is_err_and}
 use Rattle.rules.specs.declared.fault.Fault.{Fault}
 use Rattle.rules.specs.declared.fault.Refusal.TheVariants.{AfterText}
@@ -29,12 +30,12 @@ there : (g : given.Over) (c : In-Some g) → c.in-Some.placed.place ≡ c.loop-i
 there g c = placed_some c.loop-intake.texts.at c.in_ok-placed.field-0 c.in-Some.placed c.in_ok-placed.ensures.place c.in-Some.is
 
 -- the fault that ends the job, with the lines so far
-ends_with : (g : given.Over) (c : After-next g) (f : Fault) → let b = g.F.Finder.book c.new-intake.result.finder in let first = reading c.args.texts.job.now c.args.texts.at in (c.loop-intake.invariant.0 ≡ accepted b 0 first.items) × (ended b 0 first.items first.stop ≡ Some f) → TextsServed (g.F.Finder.book c.args.finder) first (vec_items c.args.lines.now) (vec_items c.loop-intake.lines) (Err f)
+ends_with : (g : given.Over) (c : After-next g) (f : Fault) → let b = g.F.Finder.book c.new-intake.result.finder in let first = reading c.args.texts.job.now c.args.texts.at in (c.loop-intake.invariant.0 ≡ accepted b 0 first.items) × (ended b 0 first.items first.stop ≡ Some f) → TextsServed (g.F.Finder.book c.args.finder) first (vec_items c.loop-intake.lines) (Err f)
 ends_with g c f h =
     let first = reading c.args.texts.job.now c.args.texts.at in
     let b = g.F.Finder.book c.new-intake.result.finder in
-    subst (λ x. TextsServed x first (vec_items c.args.lines.now) (vec_items c.loop-intake.lines) (Err f)) (book_is g c)
-    (inr (h.1, c.loop-intake.invariant.2 ∙ ap (λ ts. vec_items c.args.lines.now ++ lines_of b 0 ts) h.0))
+    subst (λ x. TextsServed x first (vec_items c.loop-intake.lines) (Err f)) (book_is g c)
+    (inl (h.1, c.loop-intake.invariant.2 ∙ ap (lines_of b 0) h.0))
 
 pub returns-in_err-placed : goal.returns-in_err-placed
 returns-in_err-placed g c =
@@ -80,7 +81,7 @@ loop-intake-preserved g c =
     let e = text_scanned job b at i.0 _ _ i.3 i.4 t c.next.new.self.at (texted g (goal.at.loop-intake-preserved g c).In-Text) ok in (
       i.0 ++ t ∷ [],
       keeps_more (record { book = b; texts = i.0 }) m (model g.F.Finder.book c.scan_text.new.intake) t noted.cases.1 i.1,
-      noted.cases.2 ∙ ap (λ xs. xs ++ map (line m.accepted) (listing m.book t)) i.2 ∙ append_assoc (vec_items c.args.lines.now) (lines_of b 0 i.0) (map (line m.accepted) (listing m.book t)) ∙ ap (λ xs. vec_items c.args.lines.now ++ xs) ((λ k. lines_of b 0 i.0 ++ map (line ((i.1.count ∙ sym (zero-add (length i.0))) k)) (listing (i.1.book k) t)) ∙ sym (lines_more b 0 i.0 t)),
+      noted.cases.2 ∙ ap (λ xs. xs ++ map (line m.accepted) (listing m.book t)) i.2 ∙ (λ k. lines_of b 0 i.0 ++ map (line ((i.1.count ∙ sym (zero-add (length i.0))) k)) (listing (i.1.book k) t)) ∙ sym (lines_more b 0 i.0 t),
       e.0,
       e.1,
       c.next.ensures.job ∙ i.5,
@@ -97,12 +98,12 @@ returns-in_err-scan_text g c =
     let f = c.in_err-scan_text.field-0.0 in
     let noted = c.in_err-scan_text.ensures in
     let first = reading job c.args.texts.at in
-    let old = vec_items c.args.lines.now in
     rw (p.1, p.2)
-    (subst (λ ls. TextsServed (g.F.Finder.book c.args.finder) first old ls (Err f)) (sym noted.cases.1)
+    (subst (λ ls. TextsServed (g.F.Finder.book c.args.finder) first ls (Err f)) (sym noted.cases.1)
     (elim noted.cases.2 [
-      | inl memory ↦ inl memory
-      | inr (k, is, at_place) ↦
+      | inr memory ↦ subst (λ x. TextsServed x first (vec_items c.loop-intake.lines) (Err f)) (book_is g (goal.at.returns-in_err-scan_text g c).After-next)
+          (inr (memory, (length i.0, i.2 ∙ ap (lines_of b 0) (sym (take_at i.0 _ (length i.0) refl) ∙ ap (take (length i.0)) i.3))))
+      | inl (k, is, at_place) ↦
           let e = text_refused job b at i.0 _ _ i.3 i.4 t c.next.new.self.at k (texted g (goal.at.returns-in_err-scan_text g c).In-Text) ((λ j. scanned (sym i.1.book j) (sym i.1.count j) t) ∙ is) in
           ends_with g (goal.at.returns-in_err-scan_text g c).After-next f (e.0, e.1 ∙ ap Some ((λ j. refused (sym (there g (goal.at.returns-in_err-scan_text g c).In-Some) j) k) ∙ sym at_place))
     ]))
@@ -115,8 +116,8 @@ returns g c =
     let first = reading job c.args.texts.at in
     let b = g.F.Finder.book c.new-intake.result.finder in
     let e = all_scanned job b at i.0 _ _ i.3 i.4 (told_none job _ at c.next.new.self.at i.5 c.in_ok-placed.field-0 c.in_ok-placed.ensures.step c.in_default.is) in
-    subst (λ x. TextsServed x first (vec_items c.args.lines.now) (vec_items c.loop-intake.lines) (Ok (model g.F.Finder.book c.loop-intake.intake))) (book_is g (goal.at.returns g c).After-next) (
+    subst (λ x. TextsServed x first (vec_items c.loop-intake.lines) (Ok (model g.F.Finder.book c.loop-intake.intake))) (book_is g (goal.at.returns g c).After-next) (
       e.1,
       subst (λ ts. Keeps (record { book = b; texts = ts }) (model g.F.Finder.book c.loop-intake.intake)) e.0 i.1,
-      i.2 ∙ ap (λ ts. vec_items c.args.lines.now ++ lines_of b 0 ts) e.0,
+      i.2 ∙ ap (lines_of b 0) e.0,
     )

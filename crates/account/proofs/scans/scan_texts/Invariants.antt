@@ -13,7 +13,7 @@ invariant-loop-intake g l =
     let left = reading job l.texts.at in
     (ts : List (List ℕ))
     × Keeps (record { book = b; texts = ts }) (model g.F.Finder.book l.intake)
-    × (vec_items l.lines ≡ vec_items l.initial.lines ++ lines_of b 0 ts)
+    × (vec_items l.lines ≡ lines_of b 0 ts)
     × (ts ++ accepted b (length ts) left.items ≡ accepted b 0 first.items)
     × (ended b (length ts) left.items left.stop ≡ ended b 0 first.items first.stop)
     × (l.texts.job.now ≡ job)

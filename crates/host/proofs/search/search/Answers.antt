@@ -2,6 +2,7 @@ use Rattle.std.proofs.Common.{rules, ◌≡◌, sym, ◌∙◌}
 use Rattle.pattern.specs.Closed.{book_of}
 use Rattle.job.specs.Format.{step}
 use Rattle.host.specs.Outcomes.{text_in, in_text, outcome}
+use Rattle.job.proofs.Openings.{open_memory}
 use Rattle.host.proofs.Texts.{outcome_is}
 use Rattle.host.proofs.Sizes.{small_hit}
 use Rattle.host.proofs.search.search.Goals as goal
@@ -13,6 +14,9 @@ settled c =
     let o = c.in_ok-opened.opened in
     let h = c.in_ok-opened.ensures in
     outcome_is c.args.job.now o.texts.job.now c.args.place c.args.searcher o.texts.at (book_of o.book) h.0 h.1 h.2 (sym c.misfits.ensures ∙ c.if-misfits.false)
+
+pub returns-in_err-opened-clause-outcome : goal.returns-in_err-opened-clause-outcome
+returns-in_err-opened-clause-outcome c = search (rules, open_memory c.args.job.now c.in_err-opened.field-0.0)
 
 pub returns-in_err-text-clause-outcome : goal.returns-in_err-text-clause-outcome
 returns-in_err-text-clause-outcome c =
