@@ -1,3 +1,4 @@
 pub mod Tallies
 pub mod Intakes
 pub mod Calls
+pub mod Batches

@@ -2,6 +2,7 @@
 
 #![tactic(auto)]
 
+pub mod batch;
 pub mod calls;
 pub mod intake;
 mod table;

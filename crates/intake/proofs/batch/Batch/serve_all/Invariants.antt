@@ -1,0 +1,21 @@
+use Rattle.std.proofs.Common.{◌≡◌, ◌≤◌, List, ◌++◌, All, map, length, vec_items, vec_len, vec_capacity}
+use Rattle.std.specs.Vec.Iter.{into_iter_items, into_iter_len}
+use Rattle.rules.specs.History.{Past}
+use Rattle.intake.specs.declared.calls.Call.{Call}
+use Rattle.intake.specs.Calls.{asks, tell, pairs, following, Outside}
+use Rattle.intake.specs.Intakes.{Serves}
+use Rattle.intake.proofs.batch.Batch.serve_all.Given as goal
+
+-- done are the calls that were made
+abbrev pub invariant-loop-call : goal.invariant-loop-call
+invariant-loop-call g l =
+    (done : List Call)
+    × (done ++ into_iter_items l.left ≡ into_iter_items l.initial.left)
+    × (vec_len l.replies ≡ length done)
+    × (length (into_iter_items l.initial.left) ≤ vec_capacity l.replies)
+    × (l.intake.finder ≡ l.initial.intake.finder)
+    × All Outside (vec_items l.replies)
+    × ((p : Past) → Serves g.F.Finder.book p l.initial.intake → Serves g.F.Finder.book (following p (pairs (map asks done) (map tell (vec_items l.replies)))) l.intake)
+
+abbrev pub decreases-loop-call : goal.decreases-loop-call
+decreases-loop-call g l = into_iter_len l.left

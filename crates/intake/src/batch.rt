@@ -1,0 +1,63 @@
+ghost use Rattle.std.specs.Prelude.{◌≡◌, ◌≤◌, ◌↔◌, [], map, length, vec_len, vec_capacity, All, IsOk, MatchResult};
+ghost use Rattle.rules.specs.History.{Past};
+ghost use Rattle.intake.specs.Calls.{asks, tell, pairs, following, Outside};
+ghost use Rattle.intake.specs.Intakes.{Serves};
+
+use crate::calls::{Call, Reply, serve};
+use crate::intake::Intake;
+use finder::finder::Finder;
+use std::alloc::Global;
+
+/// Calls that are to be made in turn, with room for the reply to each: so that making them needs no memory.
+#[derive(Drop)]
+pub struct Batch<'a> {
+    calls: Vec<Call<'a>>,
+    replies: Vec<Reply>,
+    ghost blank: { replies.items ≡ [] },
+    ghost room: { vec_len calls ≤ vec_capacity replies },
+}
+
+impl<'a> Batch<'a> {
+    ghost use Rattle.intake.specs.Batches.{calls_of};
+
+    /// A batch of calls. Where there is no memory for the replies the calls are given back.
+    pub fn new(heap: Global, calls: Vec<Call<'a>>) -> Result<Batch<'a>, Vec<Call<'a>>>
+        ensures { MatchResult result (λ batch. calls_of batch ≡ calls.entry.items) (λ back. back.items ≡ calls.entry.items) }
+    {
+        let Ok(replies) = Vec::with_capacity(heap, calls.len()) else {
+            return Err(calls);
+        };
+        Ok(Batch { calls, replies })
+    }
+
+    /// A batch of calls over a list for their replies, which has no replies and room for all of them; any other list, and the
+    /// calls, are given back.
+    pub fn over(
+        calls: Vec<Call<'a>>,
+        replies: Vec<Reply>,
+    ) -> Result<Batch<'a>, (Vec<Call<'a>>, Vec<Reply>)>
+        ensures room { IsOk result ↔ ((replies.items ≡ []) × (vec_len calls.entry ≤ vec_capacity replies)) }
+        ensures calls { MatchResult result (λ batch. calls_of batch ≡ calls.entry.items) (λ back. (back.0.items ≡ calls.entry.items) × (back.1 ≡ replies)) }
+    {
+        if !replies.is_empty() || calls.len() > replies.capacity() {
+            return Err((calls, replies));
+        }
+        Ok(Batch { calls, replies })
+    }
+
+    /// Makes each call in turn, and answers the replies.
+    pub fn serve_all<F: Finder>(self, intake: &mut Intake<F>) -> Vec<Reply>
+        ensures finder { intake.new.finder ≡ intake.old.finder }
+        ensures replies { (vec_len result ≡ length (calls_of self.entry)) × All Outside result.items }
+        ensures served { (p : Past) → Serves F.book p intake.old → Serves F.book (following p (pairs (map asks (calls_of self.entry)) (map tell result.items))) intake.new }
+    {
+        let Batch { calls, mut replies } = self;
+        let mut left = calls.into_iter();
+        // No `for`, which would let go of what it has not gone over: a call need not be one that may be let go.
+        while let Some(call) = left.next() {
+            replies.push_reserved(serve(intake, call));
+        }
+        left.destroy_empty();
+        replies
+    }
+}
