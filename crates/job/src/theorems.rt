@@ -1,10 +1,11 @@
 ghost use Rattle.std.specs.Prelude.{◌≡◌, true};
-ghost use Rattle.job.specs.Written.{ReadsBack};
+ghost use Rattle.job.specs.Written.{ReadsBack, ReadsAll};
 
 /// A job that is records in a row reads as those records, with their places, up to its end. It answers `true`.
-#[tactic(auto, using(crate::proofs::Written::reads_back))]
+#[tactic(auto, using(crate::proofs::Written::reads_back, crate::proofs::Converse::reads_all))]
 pub fn jobs_read_back() -> bool
     ensures back { ReadsBack }
+    ensures all { ReadsAll }
     ensures value { result ≡ true }
 {
     true
