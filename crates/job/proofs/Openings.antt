@@ -66,8 +66,7 @@ module _ (job : List ℕ) (b : Book) (at : ℕ) (so_far : opening empty (reading
 
   pub fill_again : (c : Book) (e : Entry) (next : ℕ) → step job at ≡ good e next → is_text e ≡ false → takes b at e ≡ Ok c → (opening empty (reading job 0) (length job) ≡ opening c (reading job next) (length job)) × (texts (reading job 0) ≡ texts (reading job next)) × ((f : Fault) → LacksAmong c (heading (reading job next).items) f → LacksAmong empty (heading (reading job 0).items) f)
   fill_again c e next h other took =
-      let is = reading_good job at next e h in
-      (
+      let is = reading_good job at next e h in (
         so_far ∙ ap (λ r. opening b r (length job)) is ∙ opening_step b at e (reading job next) (length job) other ∙ ap (λ x. and_then x (λ d. opening d (reading job next) (length job))) took,
         left ∙ ap texts is ∙ texts_step at e (reading job next) other,
         λ f w. starved f (subst (λ (r : Reading). LacksAmong b (heading r.items) f) (sym is) (lacks_behind b c at e (reading job next) f other took w)),
