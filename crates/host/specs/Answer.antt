@@ -6,9 +6,9 @@
 -- code d                  the number that the answer d has: 0 for a hit
 -- buffer_after d old      the bytes of the buffer then: those of the hit, else the old ones
 -- SmallAnswer d           the numbers of a hit are small, so that four bytes hold each
--- Replies x d r old new   the number r, and a buffer that held old and then new, are those of the answer d; a call in order may
---                         also meet want of memory, which has the number 103 and writes nothing
-use Rattle.std.specs.Prelude.{◌≡◌, ℕ, true, cond, ◌⊎◌, List, is_some, Some, None, Ok, Err, Option, Result, ◌==◌}
+-- Replies j x d r old new   the number r, and a buffer that held old and then new, are those of the answer d; a call in order with a
+--                           job j that is not too long may also meet want of memory, which has the number 103 and writes nothing
+use Rattle.std.specs.Prelude.{◌≡◌, ℕ, ◌≤◌, true, cond, ◌⊎◌, List, length, is_some, Some, None, Ok, Err, Option, Result, ◌==◌}
 use Rattle.rules.specs.declared.primitives.Match.{Match}
 use Rattle.host.specs.declared.miss.Miss.{Miss}
 use Rattle.host.specs.declared.miss.Miss.TheVariants.{Miscalled}
@@ -44,5 +44,5 @@ abbrev pub SmallAnswer : Result Match ℕ → Type 0
 SmallAnswer (Ok m) = Small m
 SmallAnswer (Err n) = Unit {0}
 
-abbrev pub Replies : Option Searcher → Result Match ℕ → ℕ → List ℕ → List ℕ → Type 0
-Replies x d r old new = ((r ≡ code d) × (new ≡ buffer_after d old)) ⊎ ((is_some x ≡ true) × (r ≡ 103) × (new ≡ old))
+abbrev pub Replies : List ℕ → Option Searcher → Result Match ℕ → ℕ → List ℕ → List ℕ → Type 0
+Replies job x d r old new = ((r ≡ code d) × (new ≡ buffer_after d old)) ⊎ ((length job ≤ 65536) × (is_some x ≡ true) × (r ≡ 103) × (new ≡ old))

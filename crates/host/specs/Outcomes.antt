@@ -6,9 +6,9 @@
 -- in_book d x t place    the refusal of d, where closing the book answered d; else 5 where the searcher x misfits; else what the search
 --                        comes to
 -- outcome job place x    the hit in a job's first text, or else why there is none: the first refusal up to that text goes first
--- TurnedDown d e         e is the reason that the defined answer d gives, or want of memory
+-- TurnedDown job d e     e is the reason that the defined answer d gives, or, for a job that is not too long, want of memory
 -- Small m                the id, the start and the end of a match are those of a book and a text within the bounds
-use Rattle.std.specs.Prelude.{◌≡◌, ℕ, ◌<◌, ◌≤◌, cond, ◌⊎◌, List, [], ◌∷◌, Some, None, Ok, Err, Option, Result, ok_or}
+use Rattle.std.specs.Prelude.{◌≡◌, ℕ, ◌<◌, ◌≤◌, cond, ◌⊎◌, List, [], ◌∷◌, length, Some, None, Ok, Err, Option, Result, ok_or}
 use Rattle.rules.specs.declared.fault.Fault.{Fault}
 use Rattle.rules.specs.declared.fault.Refusal.TheVariants.{BadMaskCount, Memory}
 use Rattle.rules.specs.declared.primitives.Match.{Match}
@@ -52,8 +52,8 @@ in_book (Err f) x t place = Err (Refused f.refusal)
 abbrev pub outcome : List ℕ → ℕ → Searcher → Result Match Miss
 outcome job place x = in_book (opened job) x (first_text job) place
 
-abbrev pub TurnedDown : Result Match Miss → Miss → Type 0
-TurnedDown d e = (e ≡ Refused Memory) ⊎ (d ≡ Err e)
+abbrev pub TurnedDown : List ℕ → Result Match Miss → Miss → Type 0
+TurnedDown job d e = (d ≡ Err e) ⊎ ((length job ≤ 65536) × (e ≡ Refused Memory))
 
 abbrev pub Small : Match → Type 0
 Small m = (id_of m < 1024) × (m.start ≤ 65536) × (m.end ≤ 65536)

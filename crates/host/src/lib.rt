@@ -30,7 +30,7 @@ pub fn find(
     masks: usize,
     out: &mut [u8],
 ) -> u32
-    ensures answer { Replies (called searcher masks (length out.old)) (answer job.now place (called searcher masks (length out.old))) result out.old out.new }
+    ensures answer { Replies job.now (called searcher masks (length out.old)) (answer job.now place (called searcher masks (length out.old))) result out.old out.new }
     ensures small { result ≡ 0 → SmallAnswer (answer job.now place (called searcher masks (length out.old))) }
 {
     // A match: `map_or_else` would be no plainer.
@@ -49,7 +49,7 @@ fn reply(
     masks: usize,
     out: &mut [u8],
 ) -> Result<(), Miss>
-    ensures { let x = called searcher masks (length out.old) in let d = answer job.now place x in MatchResult result (λ _. Replies x d 0 out.old out.new × SmallAnswer d) (λ e. Replies x d (number_of e) out.old out.new) }
+    ensures { let x = called searcher masks (length out.old) in let d = answer job.now place x in MatchResult result (λ _. Replies job.now x d 0 out.old out.new × SmallAnswer d) (λ e. Replies job.now x d (number_of e) out.old out.new) }
 {
     if out.len() != 12 {
         return Err(Miss::Miscalled);

@@ -29,7 +29,7 @@ pub(crate) fn search(
     place: usize,
     searcher: Searcher,
 ) -> Result<Match, Miss>
-    ensures outcome { MatchResult result (λ m. outcome job.now place searcher ≡ Ok m) (TurnedDown (outcome job.now place searcher)) }
+    ensures outcome { MatchResult result (λ m. outcome job.now place searcher ≡ Ok m) (TurnedDown job.now (outcome job.now place searcher)) }
     ensures small { IfOk result Small }
 {
     let opened = open(heap, job)?;

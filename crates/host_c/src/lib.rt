@@ -18,7 +18,7 @@ pub extern "C" fn find(
     masks: usize,
     out: &mut [u8],
 ) -> u32
-    ensures answer { Replies (called searcher masks (length out.old)) (answer job.now place (called searcher masks (length out.old))) result out.old out.new }
+    ensures answer { Replies job.now (called searcher masks (length out.old)) (answer job.now place (called searcher masks (length out.old))) result out.old out.new }
     ensures small { result ≡ 0 → SmallAnswer (answer job.now place (called searcher masks (length out.old))) }
 {
     host::find(heap, job, place, searcher, masks, out)
