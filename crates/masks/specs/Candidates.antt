@@ -5,7 +5,9 @@
 -- candidates n means m seen xs   the candidates of the window xs
 -- kept count k old new           what the k-th mask leaves for the next window: what it admits now, unless it is the last of the
 --                                count masks or lies behind it: then it leaves old
-use Rattle.std.specs.Prelude.{ℕ, zero, suc, cond, List, ◌==◌}
+-- Tests n means m seen xs r seen'   what `candidate` does with the window xs: r has its candidates, and seen' what the masks admitted
+--                                there
+use Rattle.std.specs.Prelude.{◌≡◌, ℕ, zero, suc, cond, List, ◌==◌}
 use Rattle.vector.specs.Lanes.{shifted_in, anded}
 use Rattle.masks.specs.declared.candidate.Masks.{Masks}
 use Rattle.masks.specs.declared.candidate.Seen.{Seen}
@@ -26,3 +28,9 @@ candidates n means m seen xs =
 abbrev pub kept : ℕ → ℕ → List ℕ → List ℕ → List ℕ
 kept count zero old new = new
 kept count (suc k) old new = cond (count == suc k) old (kept count k old new)
+
+pub record Tests {A : Type 0} (n : ℕ) (means : A → List ℕ) (m : Masks A) (seen : Seen A) (xs : List ℕ) (r : A) (seen' : Seen A) : Type 0 where
+  pub found : means r ≡ candidates n means m seen xs
+  pub first : means seen'.first ≡ kept m.count 1 (means seen.first) (admitted n means m.first xs)
+  pub second : means seen'.second ≡ kept m.count 2 (means seen.second) (admitted n means m.second xs)
+  pub third : means seen'.third ≡ kept m.count 3 (means seen.third) (admitted n means m.third xs)

@@ -1,8 +1,7 @@
 //! The candidates of a window.
 ghost use Rattle.std.specs.Prelude.{◌≡◌};
 ghost use Rattle.vector.specs.Lanes.{splatted};
-ghost use Rattle.masks.specs.Members.{admitted};
-ghost use Rattle.masks.specs.Candidates.{candidates, kept};
+ghost use Rattle.masks.specs.Candidates.{Tests};
 
 use crate::mask::Mask;
 use vector::vector::Vector;
@@ -46,10 +45,7 @@ impl<V: Vector> Masks<V> {
     /// The buckets for which each place of a window is a candidate: lane i speaks of the place `count` - 1 before its byte.
     /// `seen` then holds what the masks admitted here.
     pub fn candidate(&self, chunk: V, seen: &mut Seen<V>) -> V
-        ensures found { V.lanes result ≡ candidates V.count V.lanes self.now seen.old (V.lanes chunk) }
-        ensures first { V.lanes seen.new.first ≡ kept self.now.count 1 (V.lanes seen.old.first) (admitted V.count V.lanes self.now.first (V.lanes chunk)) }
-        ensures second { V.lanes seen.new.second ≡ kept self.now.count 2 (V.lanes seen.old.second) (admitted V.count V.lanes self.now.second (V.lanes chunk)) }
-        ensures third { V.lanes seen.new.third ≡ kept self.now.count 3 (V.lanes seen.old.third) (admitted V.count V.lanes self.now.third (V.lanes chunk)) }
+        ensures { Tests V.count V.lanes self.now seen.old (V.lanes chunk) result seen.new }
     {
         // One search for every mask count: a rule of the project.
         match self.count {

@@ -1,4 +1,6 @@
 //! The candidates of a text's windows, place by place.
+ghost use Rattle.vector.specs.Lanes.{loaded};
+ghost use Rattle.masks.specs.Candidates.{Tests};
 ghost use Rattle.masks.specs.Places.{Exact};
 
 use crate::candidate::{Masks, Seen};
@@ -9,7 +11,8 @@ impl<V: Vector> Masks<V> {
     /// admits the bucket k for the byte j behind the lane's place, for all j below the mask count. Of these bytes only those are
     /// tested that were loaded since `seen` was blank; `seen` then holds what the masks admitted here.
     pub fn window(&self, text: &[u8], at: usize, seen: &mut Seen<V>) -> V
-        ensures { Exact V.count V.lanes self.now at text.now seen.old result seen.new }
+        ensures tests { Tests V.count V.lanes self.now seen.old (loaded V.count text.now at) result seen.new }
+        ensures exact { Exact V.count V.lanes self.now at text.now seen.old result seen.new }
     {
         self.loaded_window(text, at, seen)
     }
@@ -17,7 +20,8 @@ impl<V: Vector> Masks<V> {
     // Beside `window`, since it is proved by hand: an edit of the public function is to be refused at its own line.
     /// Loads the window, and asks for its candidates.
     fn loaded_window(&self, text: &[u8], at: usize, seen: &mut Seen<V>) -> V
-        ensures { Exact V.count V.lanes self.now at text.now seen.old result seen.new }
+        ensures tests { Tests V.count V.lanes self.now seen.old (loaded V.count text.now at) result seen.new }
+        ensures exact { Exact V.count V.lanes self.now at text.now seen.old result seen.new }
     {
         self.candidate(V::load(text, at), seen)
     }

@@ -7,8 +7,11 @@ use Rattle.masks.proofs.Exact.{Sees, newer, shows, recalls}
 use Rattle.masks.proofs.Loaded.{sees}
 use Rattle.masks.proofs.candidate.Masks.loaded_window.Goals as goal
 
-pub returns : goal.returns
-returns g c b ids key low of le saw =
+pub returns-clause-tests : goal.returns-clause-tests
+returns-clause-tests g c = rw c.load.ensures at c.candidate.ensures
+
+pub returns-clause-exact : goal.returns-clause-exact
+returns-clause-exact g c b ids key low of le saw =
     let n = g.V.Vector.count in
     let means = g.V.Vector.lanes in
     let wide = g.met.V.Vector.wide in

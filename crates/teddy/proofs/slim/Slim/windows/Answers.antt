@@ -84,7 +84,7 @@ windowed : (g : given.Over) (c : After-window-found g) →
 windowed g c =
     let t = c.args.self.now.teddy.tables in
     let old = c.search.invariant.seen in
-    c.window-found.ensures (book_in t) (ids_in t) (key_in t) old.0 c.masks-masks.ensures.masks old.1 old.2
+    c.window-found.ensures.exact (book_in t) (ids_in t) (key_in t) old.0 c.masks-masks.ensures.masks old.1 old.2
 
 -- where a window's digits below d were tried in vain, nothing sought stands below d
 window_below : (g : given.Over) (c : After-window-found g) (d : ℕ) → d ≤ 8 * g.V.Vector.count
