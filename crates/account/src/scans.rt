@@ -44,7 +44,7 @@ pub(crate) fn scan_text<F: Finder>(
     lines.try_reserve(MAX_HITS)?;
     let number = intake.count();
     let n = intake.scan_at(place, text, hits.as_mut_slice())?;
-    note(lines, number, &hits[0..n]);
+    note(lines, number, hits.as_slice().split_at(n).0);
     Ok(())
 }
 

@@ -1,12 +1,10 @@
 -- How many ids the buckets below one have.
-use Rattle.std.proofs.Common.{◌≡◌, ℕ, zero, suc, ◌+◌, ◌<◌, ◌≤◌, Bool, cond, eqb, ltb, List, [], ◌∷◌, ◌++◌, map, length, get_or, take, set, count_by, sym, refl, ap, ◌∙◌, inl, inr, append_assoc, add-one, arith, length-append}
+use Rattle.std.proofs.Common.{◌≡◌, ℕ, zero, suc, ◌+◌, ◌<◌, ◌≤◌, Bool, cond, eqb, ltb, List, [], ◌∷◌, ◌++◌, length, get_or, take, set, count_by, sym, refl, ap, ◌∙◌, inl, inr, append_assoc, add-one, arith, length-append}
 use Rattle.std.proofs.lemmas.List.Sums.{sum_by-cons, sum_by-take-le, length-filter, count_by-le-length, count_by_more_yes}
 use Rattle.std.proofs.lemmas.Bool.Decides.{nat_tests}
 use Rattle.std.proofs.lemmas.List.Elements.{filter_more}
-use Rattle.std.proofs.lemmas.List.{append-nil, map-append, take_all, get_or-set_same, get_or-set_other}
+use Rattle.std.proofs.lemmas.List.{append-nil, take_all, get_or-set_same, get_or-set_other}
 use Rattle.std.proofs.lemmas.Bool.{cases_eq, eq-eqb, ne_eqb, cond-true, cond-false}
-use Rattle.rules.specs.declared.primitives.PatternID.{PatternID}
-use Rattle.pattern.specs.Order.{number}
 use Rattle.buckets.specs.Buckets.{in_bucket, below}
 
 one_split : (k b : ℕ) → cond (ltb k (suc b)) 1 0 ≡ cond (ltb k b) 1 0 + cond (eqb k b) 1 0
@@ -43,28 +41,28 @@ below_next key order b = rw (add-one)
 
 module _ (key : ℕ → ℕ) (order : List ℕ) where
   -- xs has the buckets below b, and of b what the first i of the order have
-  abbrev pub Filled : List PatternID → ℕ → ℕ → Type 0
-  Filled xs b i = map number xs ≡ below key order b ++ in_bucket key (take i order) b
+  abbrev pub Filled : List ℕ → ℕ → ℕ → Type 0
+  Filled xs b i = xs ≡ below key order b ++ in_bucket key (take i order) b
 
-  pub filled_yes : (xs ys : List PatternID) (b i : ℕ) (x : PatternID) → i < length order → key (get_or order i 0) ≡ b → x.0.0 ≡ get_or order i 0 → ys ≡ xs ++ x ∷ [] → Filled xs b i → Filled ys b (i + 1)
+  pub filled_yes : (xs ys : List ℕ) (b i : ℕ) (x : ℕ) → i < length order → key (get_or order i 0) ≡ b → x ≡ get_or order i 0 → ys ≡ xs ++ x ∷ [] → Filled xs b i → Filled ys b (i + 1)
   filled_yes xs ys b i x il e is more inv =
       let id = get_or order i 0 in
       let one : in_bucket key (take (i + 1) order) b ≡ in_bucket key (take i order) b ++ id ∷ [] =
       filter_more (λ y. eqb (key y) b) order i 0 il ∙ ap (λ q. in_bucket key (take i order) b ++ q) (cond-true (eqb (key id) b) (id ∷ []) [] (eq-eqb (key id) b e)) in
-      ap (map number) more ∙ (map-append number xs (x ∷ []) ∙ (ap (λ q. q ++ x.0.0 ∷ []) inv ∙ (ap (λ n. (below key order b ++ in_bucket key (take i order) b) ++ n ∷ []) is
-      ∙ (append_assoc (below key order b) (in_bucket key (take i order) b) (id ∷ []) ∙ ap (λ q. below key order b ++ q) (sym one)))))
+      more ∙ (ap (λ q. q ++ x ∷ []) inv ∙ (ap (λ n. (below key order b ++ in_bucket key (take i order) b) ++ n ∷ []) is
+      ∙ (append_assoc (below key order b) (in_bucket key (take i order) b) (id ∷ []) ∙ ap (λ q. below key order b ++ q) (sym one))))
 
-  pub filled_no : (xs : List PatternID) (b i : ℕ) → i < length order → (key (get_or order i 0) ≡ b → ⊥) → Filled xs b i → Filled xs b (i + 1)
+  pub filled_no : (xs : List ℕ) (b i : ℕ) → i < length order → (key (get_or order i 0) ≡ b → ⊥) → Filled xs b i → Filled xs b (i + 1)
   filled_no xs b i il ne inv =
       let id = get_or order i 0 in
       let same : in_bucket key (take (i + 1) order) b ≡ in_bucket key (take i order) b =
       filter_more (λ y. eqb (key y) b) order i 0 il ∙ (ap (λ q. in_bucket key (take i order) b ++ q) (cond-false (eqb (key id) b) (id ∷ []) [] (ne_eqb (key id) b ne)) ∙ append-nil (in_bucket key (take i order) b)) in
       inv ∙ ap (λ q. below key order b ++ q) (sym same)
 
-  pub filled_start : (xs : List PatternID) (b : ℕ) → map number xs ≡ below key order b → Filled xs b 0
+  pub filled_start : (xs : List ℕ) (b : ℕ) → xs ≡ below key order b → Filled xs b 0
   filled_start xs b e = e ∙ sym (append-nil (below key order b))
 
-  pub filled_end : (xs : List PatternID) (b i : ℕ) → length order ≤ i → Filled xs b i → map number xs ≡ below key order (b + 1)
+  pub filled_end : (xs : List ℕ) (b i : ℕ) → length order ≤ i → Filled xs b i → xs ≡ below key order (b + 1)
   filled_end xs b i le inv = inv ∙ (ap (λ q. below key order b ++ in_bucket key q b) (take_all i order le) ∙ sym (below_next key order b))
 
 -- one more start

@@ -24,7 +24,7 @@ pub fn stands(pattern: &[u8], text: &[u8], start: usize) -> bool
 
 /// The match of a pattern at a place, if its bytes stand there.
 pub fn verify(book: &Book, id: PatternID, text: &[u8], start: usize) -> Option<Match>
-    ensures { Verified (book_of book.now) id.0.0 text.now start result }
+    ensures { Verified (book_of book.now) id text.now start result }
 {
     let pattern = book.get(id);
     stands(pattern, text, start).then(|| Match {

@@ -14,7 +14,7 @@ use Rattle.intake.specs.declared.calls.Reply.TheVariants.{Scanned, Tallied}
 
 abbrev pub asks : Call → Asked
 asks (Scan text hits) = ask_scan text.now (vec_items hits)
-asks (Tally i) = ask_tally i.0.0
+asks (Tally i) = ask_tally i
 
 abbrev pub tell : Reply → Told
 tell (Scanned r hits) = told_scan (told r) (vec_items hits)

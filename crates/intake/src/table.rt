@@ -40,8 +40,8 @@ impl Table {
     // The tally of a pattern.
     #[tactic(auto, using(crate::proofs::Raises::tally_at))]
     pub(crate) fn get(&self, id: PatternID) -> u32
-        requires { id.0.0 < 1024 }
-        ensures { result ≡ slice_index (tallies self.now) id.0.0 }
+        requires { id < 1024 }
+        ensures { result ≡ slice_index (tallies self.now) id }
     {
         self.records[id.as_usize()].hits
     }
@@ -49,10 +49,10 @@ impl Table {
     // Lends the record of a pattern, and raises it. A method that only lends it gets no proof: it is an element of an array.
     #[tactic(auto, using(crate::proofs::Raises::tally_at, crate::proofs::Raises::tallies_set))]
     fn raise(&mut self, id: PatternID)
-        requires known { id.0.0 < 1024 }
-        requires room { slice_index (tallies self.old) id.0.0 + 1 < 2 ^ 32 }
+        requires known { id < 1024 }
+        requires room { slice_index (tallies self.old) id + 1 < 2 ^ 32 }
         ensures len { length (tallies self.old) ≡ 1024 }
-        ensures set { tallies self.new ≡ slice_set (tallies self.old) id.0.0 (slice_index (tallies self.old) id.0.0 + 1) }
+        ensures set { tallies self.new ≡ slice_set (tallies self.old) id (slice_index (tallies self.old) id + 1) }
     {
         let record = &mut self.records[id.as_usize()];
         record.raise();

@@ -6,17 +6,19 @@
 use finder::plain::Plain;
 use intake::intake::Intake;
 use pattern::patterns::Patterns;
-use rules::primitives::{Match, PatternID, SmallIndex};
+use rules::primitives::{Match, PatternID};
 use std::alloc::Global;
 use std::io;
 use std::rc::Rc;
 
-/// An entry that no scan writes. (Its id by fields: `From` is no constant.)
-const OLD: Match = Match {
-    pattern: PatternID(SmallIndex(9)),
-    start: 90,
-    end: 99,
-};
+/// An entry that no scan writes. (A function, since `From` is no constant.)
+fn old() -> Match {
+    Match {
+        pattern: PatternID::from(9),
+        start: 90,
+        end: 99,
+    }
+}
 
 /// An intake for `A` and `BC`.
 fn intake_of(heap: Global) -> anyhow::Result<Intake<Plain>> {
@@ -28,11 +30,11 @@ fn intake_of(heap: Global) -> anyhow::Result<Intake<Plain>> {
 }
 
 /// A tally, or the fault of the call for it.
-// An id here may be above those of `PatternID::from`.
-fn show_tally(rt: &HostRuntime, intake: &Intake<Plain>, id: u32) -> io::Result<()> {
-    match intake.tally(PatternID(SmallIndex(id))) {
-        Ok(tally) => println!(rt; "  tally {id}: {tally}"),
-        Err(fault) => println!(rt; "  tally {id}: {fault}"),
+fn show_tally(rt: &HostRuntime, intake: &Intake<Plain>, id: PatternID) -> io::Result<()> {
+    let index = id.as_usize();
+    match intake.tally(id) {
+        Ok(tally) => println!(rt; "  tally {index}: {tally}"),
+        Err(fault) => println!(rt; "  tally {index}: {fault}"),
     }
 }
 
@@ -45,7 +47,7 @@ fn show_scan(
     room: usize,
 ) -> io::Result<()> {
     let len = text.len();
-    let mut hits = vec![in rt.alloc(); OLD; room]?;
+    let mut hits = vec![in rt.alloc(); old(); room]?;
     match intake.scan_at(place, text, &mut hits) {
         Ok(n) => println!(rt; "{len} bytes, room for {room}: {n} hits")?,
         Err(fault) => println!(rt; "{len} bytes, room for {room}: {fault}")?,
@@ -54,8 +56,8 @@ fn show_scan(
         println!(rt; "  {} {} {}", hit.start, hit.end, hit.pattern.as_usize())?;
     }
     println!(rt; "  texts {}", intake.count())?;
-    show_tally(rt, intake, 0)?;
-    show_tally(rt, intake, 1)
+    show_tally(rt, intake, PatternID::ZERO)?;
+    show_tally(rt, intake, PatternID::from(1))
 }
 
 fn main(rt: HostRuntime) -> anyhow::Result<()> {
@@ -80,7 +82,7 @@ fn main(rt: HostRuntime) -> anyhow::Result<()> {
         show_scan(&rt, &mut intake, place, text, room)?;
     }
     // ids that the book lacks
-    for id in [2, 1024, u32::MAX] {
+    for id in [PatternID::from(2), PatternID::from(1024), PatternID::MAX] {
         show_tally(&rt, &intake, id)?;
     }
     Ok(())

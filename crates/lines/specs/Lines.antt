@@ -5,7 +5,7 @@
 use Rattle.std.specs.Prelude.{◌≡◌, ℕ, ◌+◌, List, [], ◌∷◌, Some, None, codes}
 use Rattle.rules.specs.declared.primitives.Match.{Match}
 use Rattle.rules.specs.declared.primitives.MatchKind.TheVariants.{LeftmostFirst, LeftmostLongest}
-use Rattle.rules.specs.Book.{Book, Within, id}
+use Rattle.rules.specs.Book.{Book, Within}
 use Rattle.rules.specs.Search.{found}
 use Rattle.rules.specs.Listing.{listing}
 use Rattle.hash.specs.Hash.{hash_of, leading, moved}
@@ -18,7 +18,7 @@ abbrev pub longest : List (List ℕ) → Book
 longest ps = record { kind = LeftmostLongest; patterns = ps }
 
 abbrev pub at : ℕ → ℕ → ℕ → Match
-at i s e = record { pattern = id i; start = s; end = e }
+at i s e = record { pattern = i; start = s; end = e }
 
 pub record Lines : Type 0 where
   pub one : found (first (codes "DC-40" ∷ codes "DC-40-R" ∷ [])) (codes "2 DC-40-R") 0 ≡ Some (at 0 2 7)

@@ -1,21 +1,18 @@
 -- The table with one pattern more, put into the longest order behind all that are at least as long.
 use Rattle.std.proofs.lemmas.Grind.{common_steps}
-use Rattle.std.proofs.Common.{◌≡◌, ℕ, ◌+◌, ◌-◌, ◌^◌, ◌<◌, ◌≤◌, min, cond, eqb, List, [], ◌∷◌, ◌++◌, true, false, leb, map, length, get_or, vec_items, sym, ap, ◌∙◌, subst, inl, inr, eq-or-lt_of_le, mul-zero, arith, rules}
+use Rattle.std.proofs.Common.{◌≡◌, ℕ, ◌+◌, ◌-◌, ◌^◌, ◌<◌, ◌≤◌, min, cond, eqb, List, [], ◌∷◌, ◌++◌, true, false, leb, length, get_or, vec_items, sym, ap, ◌∙◌, subst, inl, inr, eq-or-lt_of_le, mul-zero, arith, rules}
 use Rattle.std.specs.List.{insert}
 use Rattle.std.specs.List.Sorted.{IsPartitionPoint, IsPartitionedBy}
-use Rattle.std.proofs.lemmas.List.{get_or-map, length-map, length_push, take-map, drop-map, map-append}
+use Rattle.std.proofs.lemmas.List.{length_push, get_or_default}
 use Rattle.std.proofs.lemmas.List.Edits.{length-insert, get_or-insert_at, get_or-insert_above}
 use Rattle.std.proofs.lemmas.List.Sums.{sum_by_push, fold_push}
 use Rattle.std.proofs.ByRecursion.{sum_by_le, All-from_get_or}
 use Rattle.std.proofs.lemmas.Bool.{cases_eq, ne_eqb, eq-eqb, cond-false, cond-true, leb-true, leb-false, le-leb}
-use Rattle.rules.specs.Book.{Book, id, count_of, size, total, shortest, Within}
+use Rattle.rules.specs.Book.{Book, count_of, size, total, shortest, Within}
 use Rattle.rules.specs.Entered.{enter}
 use Rattle.pattern.specs.declared.table.Table.{Table}
-use Rattle.pattern.specs.Order.{number, times, LongestOrder}
+use Rattle.pattern.specs.Order.{times, LongestOrder}
 use Rattle.pattern.specs.Contents.{contents, longest, entries, Sound}
-
-pub map_inserted : {X Y : Type 0} (f : X → Y) (xs : List X) (i : ℕ) (x : X) → map f (insert xs i x) ≡ insert (map f xs) i (f x)
-map_inserted f xs i x = simp (map-append, take-map, drop-map)
 
 size_old : (b : Book) (p : List ℕ) (k : ℕ) → k < count_of b → size (enter b p) k ≡ size b k
 size_old b p k h = grind (arith, common_steps)
@@ -98,24 +95,21 @@ entered_within : (b : Book) (p : List ℕ) → Within b → 0 < length p → cou
 entered_within b p w some few short = grind (arith, common_steps)
 
 -- in the longest order no pattern of n bytes or more stands behind a shorter one
-pub parted : (t : Table) (n : ℕ) → Sound t → IsPartitionedBy (λ i. leb n (size (contents t) (number i))) (vec_items t.order)
+pub parted : (t : Table) (n : ℕ) → Sound t → IsPartitionedBy (λ i. leb n (size (contents t) i)) (vec_items t.order)
 parted t n s i j d le h e =
     let ids = vec_items t.order in
-    let at = get_or-map number ids in
     elim (eq-or-lt_of_le le) [
-      | inl q ↦ subst (λ k. leb n (size (contents t) (number (get_or ids k d))) ≡ true) (sym q) e
-      | inr lt ↦ le-leb n _ (omega (arith, leb-true n _ e, s.ordered.falling i j lt (omega (arith, length-map ids number)), ap (size (contents t)) (at i d 0 (omega arith)), ap (size (contents t)) (at j d 0 h)))
+      | inl q ↦ subst (λ k. leb n (size (contents t) (get_or ids k d)) ≡ true) (sym q) e
+      | inr lt ↦ le-leb n _ (omega (arith, leb-true n _ e, s.ordered.falling i j lt (omega arith), ap (size (contents t)) (get_or_default ids i d 0 (omega arith)), ap (size (contents t)) (get_or_default ids j d 0 h)))
     ]
 
 -- the table with one pattern more
-pub entered_sound : (t u : Table) (p : List ℕ) (at : ℕ) → Sound t → 0 < length p → count_of (contents t) < 1024 → total (contents t) + length p ≤ 16384 → at ≤ length (vec_items t.order) → IsPartitionPoint (λ i. leb (length p) (size (contents t) (number i)) ≡ true) (λ i. leb (length p) (size (contents t) (number i)) ≡ false) (vec_items t.order) at → contents u ≡ enter (contents t) p → longest u ≡ insert (longest t) at (count_of (contents t)) → entries u ≡ entries t ++ count_of (contents t) ∷ [] → u.minimum_len ≡ min t.minimum_len (length p) → u.total_pattern_bytes ≡ t.total_pattern_bytes + length p → Sound u
+pub entered_sound : (t u : Table) (p : List ℕ) (at : ℕ) → Sound t → 0 < length p → count_of (contents t) < 1024 → total (contents t) + length p ≤ 16384 → at ≤ length (vec_items t.order) → IsPartitionPoint (λ i. leb (length p) (size (contents t) i) ≡ true) (λ i. leb (length p) (size (contents t) i) ≡ false) (vec_items t.order) at → contents u ≡ enter (contents t) p → longest u ≡ insert (longest t) at (count_of (contents t)) → entries u ≡ entries t ++ count_of (contents t) ∷ [] → u.minimum_len ≡ min t.minimum_len (length p) → u.total_pattern_bytes ≡ t.total_pattern_bytes + length p → Sound u
 entered_sound t u p at s some few within le cut is order es least sum =
     let b = contents t in
     let ids = vec_items t.order in
-    let all : length (longest t) ≡ length ids = length-map ids number in
-    let id_at = λ (k : ℕ) (l : k < length ids). ap (size b) (get_or-map number ids k (id 0) 0 l) in
-    let longer : (k : ℕ) → k < at → length p ≤ size b (get_or (longest t) k 0) = λ k h. omega (arith, id_at k (omega arith), leb-true (length p) _ (cut.0 k (id 0) (omega arith) h)) in
-    let shorter : (k : ℕ) → at ≤ k → k < length (longest t) → size b (get_or (longest t) k 0) < length p = λ k h l. omega (arith, id_at k (omega arith), leb-false (length p) _ (cut.1 k (id 0) h (omega arith))) in
+    let longer : (k : ℕ) → k < at → length p ≤ size b (get_or (longest t) k 0) = λ k h. omega (arith, leb-true (length p) _ (cut.0 k 0 (omega arith) h)) in
+    let shorter : (k : ℕ) → at ≤ k → k < length (longest t) → size b (get_or (longest t) k 0) < length p = λ k h l. omega (arith, leb-false (length p) _ (cut.1 k 0 h (omega arith))) in
     record {
       summed = omega (arith, ap total is, sum_by_push length b.patterns p);
       least = omega (arith, ap shortest is, fold_push (λ m q. min m (length q)) (2 ^ 64 - 1) b.patterns p);

@@ -9,7 +9,7 @@ use Rattle.rules.specs.declared.primitives.MatchKind.{MatchKind}
 use Rattle.rules.specs.declared.primitives.MatchKind.TheVariants.{LeftmostFirst, LeftmostLongest}
 use Rattle.rules.specs.Book.{Book, count_of, total, shortest, Within}
 use Rattle.pattern.specs.declared.table.Table.{Table}
-use Rattle.pattern.specs.Order.{number, LongestOrder}
+use Rattle.pattern.specs.Order.{LongestOrder}
 
 abbrev pub contents : Table → Book
 contents t = record { kind = t.kind; patterns = map (λ v. vec_items v) (vec_items t.by_id) }
@@ -21,11 +21,11 @@ abbrev pub of_kind : MatchKind → Book → Book
 of_kind k b = record { kind = k; patterns = b.patterns }
 
 abbrev pub longest : Table → List ℕ
-longest t = map number (vec_items t.order)
+longest t = vec_items t.order
 
 -- the ids in order of entry
 abbrev pub entries : Table → List ℕ
-entries t = map number (vec_items t.entered)
+entries t = vec_items t.entered
 
 -- the one of the two orders that the kind reads
 abbrev pub order_of : MatchKind → List ℕ → List ℕ → List ℕ

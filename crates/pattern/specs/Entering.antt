@@ -8,8 +8,7 @@ use Rattle.std.specs.Option.{unwrap_or}
 use Rattle.rules.specs.declared.fault.Fault.{Fault}
 use Rattle.rules.specs.declared.fault.Refusal.{Refusal}
 use Rattle.rules.specs.declared.fault.Refusal.TheVariants.{EmptyPattern, TooManyPatterns, TooManyBytes, NoPatterns, BadMaskCount, Memory}
-use Rattle.rules.specs.declared.primitives.PatternID.{PatternID}
-use Rattle.rules.specs.Book.{Book, id, count_of, total, bad_masks}
+use Rattle.rules.specs.Book.{Book, count_of, total, bad_masks}
 use Rattle.rules.specs.Entered.{enter}
 use Rattle.rules.specs.Faults.{refused}
 use Rattle.pattern.specs.declared.patterns.Patterns.{Patterns}
@@ -24,9 +23,9 @@ entering b p =
     (cond (nat_le 1024 (count_of b)) (Some TooManyPatterns)
     (cond (nat_lt 16384 (total b + length p)) (Some TooManyBytes) None))
 
-abbrev pub Enters : Book → ℕ → List ℕ → Result PatternID Fault → Book → Type 0
+abbrev pub Enters : Book → ℕ → List ℕ → Result ℕ Fault → Book → Type 0
 Enters b at p r b' = MatchResult r
-    (λ i. (entering b p ≡ None) × (i ≡ id (count_of b)) × (b' ≡ enter b p))
+    (λ i. (entering b p ≡ None) × (i ≡ count_of b) × (b' ≡ enter b p))
     (λ e. (e ≡ refused at (unwrap_or (entering b p) Memory)) × (b' ≡ b))
 
 abbrev pub checking : Book → ℕ → Option Refusal

@@ -1,13 +1,8 @@
--- number i             the index of a pattern id
 -- times k xs           how often k stands in xs
 -- LongestOrder b ids   ids holds each id of b once: falling length, equal lengths by rising id
 -- ReadingOrder b ids   ids holds every id of b, a preferred one before the others
 use Rattle.std.specs.Prelude.{◌≡◌, ℕ, ◌<◌, ◌≤◌, List, length, count_by, nat_eq, slice_index}
-use Rattle.rules.specs.declared.primitives.PatternID.{PatternID}
 use Rattle.rules.specs.Book.{Book, count_of, size, Preferred}
-
-abbrev pub number : PatternID → ℕ
-number i = i.0.0
 
 abbrev pub times : ℕ → List ℕ → ℕ
 times k xs = count_by (λ x. nat_eq x k) xs

@@ -1,5 +1,5 @@
 ghost use Rattle.std.specs.Prelude.{◌≡◌, ◌+◌, ◌<◌, ◌≤◌, length, MatchResult};
-ghost use Rattle.rules.specs.Book.{id, count_of, pattern, total};
+ghost use Rattle.rules.specs.Book.{count_of, pattern, total};
 ghost use Rattle.rules.specs.Entered.{enter};
 ghost use Rattle.pattern.specs.Contents.{contents, Sound};
 
@@ -35,7 +35,7 @@ impl Table {
         requires few { count_of (contents self.old) < 1024 }
         requires within { total (contents self.old) + length bytes.now ≤ 16384 }
         ensures sound { Sound self.new }
-        ensures cases { MatchResult result (λ new. (new ≡ id (count_of (contents self.old))) × (contents self.new ≡ enter (contents self.old) bytes.now)) (λ _. contents self.new ≡ contents self.old) }
+        ensures cases { MatchResult result (λ new. (new ≡ count_of (contents self.old)) × (contents self.new ≡ enter (contents self.old) bytes.now)) (λ _. contents self.new ≡ contents self.old) }
     {
         // Behind all that are at least as long.
         let at = self
@@ -55,7 +55,7 @@ impl Table {
 
     /// The bytes of a pattern; none for an id that is not in. `Book::get` lends them too, but `enter` has no book.
     pub(crate) fn pattern(&self, id: PatternID) -> &[u8]
-        ensures { result.now ≡ pattern (contents self.now) id.0.0 }
+        ensures { result.now ≡ pattern (contents self.now) id }
     {
         self.by_id.get(id.as_usize()).map_or(&[], |v| v.as_slice())
     }

@@ -1,10 +1,7 @@
 -- What a searcher's tables say of its book.
-use Rattle.std.proofs.Common.{◌≡◌, ℕ, ◌%◌, ◌<◌, List, map, length, get_or, rc_value, sym, ap, ◌∙◌, mod-lt, arith, lit<}
-use Rattle.std.proofs.lemmas.List.{length-map}
-use Rattle.rules.specs.declared.primitives.PatternID.{PatternID}
-use Rattle.rules.specs.Book.{id, count_of, pattern, shortest}
+use Rattle.std.proofs.Common.{◌≡◌, ℕ, ◌%◌, ◌<◌, List, length, get_or, rc_value, sym, ap, ◌∙◌, mod-lt, arith, lit<}
+use Rattle.rules.specs.Book.{count_of, pattern, shortest}
 use Rattle.rules.specs.Search.{Stands}
-use Rattle.pattern.specs.Order.{number}
 use Rattle.pattern.specs.Closed.{order_in}
 use Rattle.hash.specs.Hash.{hash_of, window}
 use Rattle.buckets.specs.Buckets.{members, in_bucket}
@@ -20,12 +17,12 @@ abbrev pub ids_of : RabinKarp → ℕ → List ℕ
 ids_of x h = in_bucket (bucket_of (searched x)) (order_in (rc_value x.book)) (h % 64)
 
 -- xs is the bucket that is read at the place s of the text t, where the next bytes have the hash h
-pub record Opened (x : RabinKarp) (t : List ℕ) (s h : ℕ) (xs : List PatternID) : Type 0 where
+pub record Opened (x : RabinKarp) (t : List ℕ) (s h : ℕ) (xs : List ℕ) : Type 0 where
   pub is : h ≡ hash_of (window t (shortest (searched x)) s)
-  pub same : map number xs ≡ members x.buckets (h % 64)
+  pub same : xs ≡ members x.buckets (h % 64)
 
-module _ {x : RabinKarp} {t : List ℕ} {s h : ℕ} {xs : List PatternID} (o : Opened x t s h xs) where
-  pub names : map number xs ≡ ids_of x h
+module _ {x : RabinKarp} {t : List ℕ} {s h : ℕ} {xs : List ℕ} (o : Opened x t s h xs) where
+  pub names : xs ≡ ids_of x h
   names = o.same ∙ x.placed (h % 64) (mod-lt h (lit< tt))
 
   pub tried : TriedAt (searched x) t s (ids_of x h)
@@ -35,11 +32,13 @@ module _ {x : RabinKarp} {t : List ℕ} {s h : ℕ} {xs : List PatternID} (o : O
     preferred = bucket_preferred (rc_value x.book) (bucket_of (searched x)) (h % 64);
   }
 
-  pub read_known : (i : ℕ) → i < length xs → number (get_or xs i (id 0)) < count_of (searched x)
-  read_known i l = omega (arith, read xs (ids_of x h) i names, tried.known i (omega (arith, ap length names, length-map xs number)))
+  -- an id that is read there, by its place in the bucket
+  pub placed_at : {i id : ℕ} → id ≡ get_or xs i id → i < length xs → id ≡ get_or (ids_of x h) i 0
+  placed_at is l = read is l names
+
+  pub read_known : {i id : ℕ} → id ≡ get_or xs i id → i < length xs → id < count_of (searched x)
+  read_known {i} is l = omega (arith, placed_at is l, tried.known i (omega (arith, ap length names)))
 
   -- a pattern that stands there has the hash, so its bytes are compared
-  pub proposed : (i : ℕ) → i < length xs → Stands (pattern (searched x) (number (get_or xs i (id 0)))) t s → get_or x.hashes (number (get_or xs i (id 0))) 0 ≡ h
-  proposed i l st =
-      let known = read_known i l in
-      x.hashed (number (get_or xs i (id 0))) known ∙ (standing_hash (searched x) t (number (get_or xs i (id 0))) s known st ∙ sym o.is)
+  pub proposed : {id : ℕ} → id < count_of (searched x) → Stands (pattern (searched x) id) t s → get_or x.hashes id 0 ≡ h
+  proposed {id} known st = x.hashed id known ∙ (standing_hash (searched x) t id s known st ∙ sym o.is)

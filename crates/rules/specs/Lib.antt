@@ -1,3 +1,4 @@
+pub mod Index
 pub mod Refusals
 pub mod Book
 pub mod Search

@@ -1,5 +1,5 @@
 -- The first pattern of an order with given low nybbles.
-use Rattle.std.proofs.Common.{◌≡◌, ℕ, zero, suc, ◌%◌, Bool, true, false, cond, eqb, List, [], ◌∷◌, map, Some, get_or, find, option_map, MatchBool, Decides, sym, refl, arith}
+use Rattle.std.proofs.Common.{◌≡◌, ℕ, zero, suc, ◌%◌, Bool, true, false, eqb, List, [], ◌∷◌, get_or, MatchBool, Decides, sym, refl, arith}
 use Rattle.std.proofs.lemmas.Bool.Decides.{Decides-eqb, Decides-below_and, same_from_decides}
 use Rattle.rules.specs.Book.{Book, pattern}
 use Rattle.tables.specs.Buckets.{Alike, alike, front, leader}
@@ -15,11 +15,6 @@ unlike p q n none = same_from_decides (alike p q n) false (decides_alike p q n) 
 pub alike_is : (p q : List ℕ) (n : ℕ) (r : Bool) → MatchBool r (Alike p q n) (Alike p q n → ⊥) → r ≡ alike p q n
 alike_is p q n true same = sym ((decides_alike p q n).1 same)
 alike_is p q n false none = sym (unlike p q n none)
-
--- the first of a list whose image passes
-pub find-map : {X : Type 0} (f : X → ℕ) (test : ℕ → Bool) (xs : List X) → find test (map f xs) ≡ option_map f (find (λ x. test (f x)) xs)
-find-map f test [] = refl
-find-map f test (x ∷ xs) = elim (test (f x)) as (λ t. cond t (Some (f x)) (find test (map f xs)) ≡ option_map f (cond t (Some x) (find (λ y. test (f y)) xs))) [ true ↦ refl | false ↦ find-map f test xs ]
 
 alike_same : (x p q : List ℕ) (n : ℕ) → Alike p q n → alike x p n ≡ alike x q n
 alike_same x p q zero e = refl

@@ -5,7 +5,7 @@ ghost use Rattle.tables.specs.Buckets.{Alike, leader, bucket_of};
 
 use pattern::book::Book;
 use pattern::patterns::methods::{MAX_MASKS, MAX_PATTERNS};
-use rules::primitives::{PatternID, SmallIndex};
+use rules::primitives::PatternID;
 use std::array;
 
 /// A byte of a pattern, 0 past its end.
@@ -36,9 +36,20 @@ fn leader_of(book: &Book, pattern: &[u8]) -> usize
 /// The bucket of a pattern: that of the first one in the kind's order with its low nybbles. Patterns that can stand at one
 /// place thus share their bucket, so that the first that is confirmed there is the preferred one.
 fn bucket_of(book: &Book, id: PatternID) -> usize
-    ensures { result ≡ bucket_of (book_of book.now) (order_in book.now) id.0.0 }
+    ensures { result ≡ bucket_of (book_of book.now) (order_in book.now) id }
 {
     7 - leader_of(book, book.get(id)) % 8
+}
+
+/// The bucket of the pattern with an index; 0 for an index that is no id.
+fn bucket_at(book: &Book, index: usize) -> usize
+    ensures { result ≡ (if nat_lt index (count_of (book_of book.now)) then bucket_of (book_of book.now) (order_in book.now) index else 0) }
+{
+    if index < book.len() {
+        bucket_of(book, PatternID::from(index as u16))
+    } else {
+        0
+    }
 }
 
 /// The bucket of each pattern, at its id; 0 at an index that is no id. The table has a fixed size, so that making it cannot
@@ -46,12 +57,5 @@ fn bucket_of(book: &Book, id: PatternID) -> usize
 pub fn assign(book: &Book) -> [usize; MAX_PATTERNS]
     ensures { (i : ℕ) → slice_index result i ≡ (if nat_lt i (count_of (book_of book.now)) then bucket_of (book_of book.now) (order_in book.now) i else 0) }
 {
-    array::from_fn(|i| {
-        if i < book.len() {
-            // By its fields: through `PatternID::from` the check does not find the bucket.
-            bucket_of(book, PatternID(SmallIndex(i as u32)))
-        } else {
-            0
-        }
-    })
+    array::from_fn(|i| bucket_at(book, i))
 }

@@ -1,5 +1,4 @@
 ghost use Rattle.std.specs.Prelude.{◌≡◌, ℕ, ◌%◌, ◌<◌, ◌≤◌, map, length, slice_index};
-ghost use Rattle.pattern.specs.Order.{number};
 ghost use Rattle.pattern.specs.Closed.{order_in};
 ghost use Rattle.buckets.specs.Buckets.{members, Holds};
 
@@ -20,7 +19,7 @@ impl Buckets {
 
     /// The ids in the bucket that a key is modulo 64.
     pub fn bucket(&self, key: usize) -> &[PatternID]
-        ensures { map number result.now ≡ members self.now (key % 64) }
+        ensures { result.now ≡ members self.now (key % 64) }
     {
         let k = key % 64;
         &self.ids[self.starts[k]..self.starts[k + 1]]
@@ -31,8 +30,8 @@ impl Buckets {
 /// The ids of an order by their keys.
 fn group(order: &[PatternID], keys: &[usize; MAX_PATTERNS]) -> Buckets
     requires few { length order.now ≤ 1024 }
-    requires known { (i : ℕ) → i < length order.now → slice_index (map number order.now) i < 1024 }
-    ensures { Holds result (λ id. slice_index keys.now id % 64) (map number order.now) }
+    requires known { (i : ℕ) → i < length order.now → slice_index order.now i < 1024 }
+    ensures { Holds result (λ id. slice_index keys.now id % 64) order.now }
 {
     let mut ids = ArrayVec::new();
     let mut starts = [0; 65];

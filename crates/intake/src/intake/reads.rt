@@ -25,15 +25,15 @@ impl<F: Finder> Intake<F> {
 
     /// How often a pattern was hit in the texts accepted so far. An id that the book lacks is refused.
     pub fn tally(&self, id: PatternID) -> Result<u32, Fault>
-        ensures value { result ≡ placed 0 (tally_in (model F.book self.now) id.0.0) }
-        ensures served { ServesCall F.book self.now (ask_tally id.0.0) (told_tally (told result)) self.now }
+        ensures value { result ≡ placed 0 (tally_in (model F.book self.now) id) }
+        ensures served { ServesCall F.book self.now (ask_tally id) (told_tally (told result)) self.now }
     {
         self.tally_of(id)
     }
 
     // Beside `tally`, whose law is proved by hand: an edit is to be refused at its own line.
     fn tally_of(&self, id: PatternID) -> Result<u32, Fault>
-        ensures { result ≡ placed 0 (tally_in (model F.book self.now) id.0.0) }
+        ensures { result ≡ placed 0 (tally_in (model F.book self.now) id) }
     {
         if id.as_usize() >= self.finder.pattern_count() {
             return Err(Refusal::UnknownPattern.at(0));

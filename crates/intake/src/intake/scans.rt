@@ -99,7 +99,7 @@ impl<F: Finder> Intake<F> {
     {
         let n = self.check_text(place, text, hits.len())?;
         write_hits(&self.finder, text, hits);
-        self.table.raise_all(&hits[0..n]);
+        self.table.raise_all(hits.split_at(n).0);
         self.accepted += 1;
         Ok(n)
     }

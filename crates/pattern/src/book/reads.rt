@@ -1,6 +1,6 @@
 ghost use Rattle.std.specs.Prelude.{◌≡◌, map};
 ghost use Rattle.rules.specs.Book.{count_of, pattern, shortest, bad_masks};
-ghost use Rattle.pattern.specs.Order.{number, ReadingOrder};
+ghost use Rattle.pattern.specs.Order.{ReadingOrder};
 ghost use Rattle.pattern.specs.Contents.{empty};
 ghost use Rattle.pattern.specs.Closed.{book_of, order_in};
 
@@ -57,8 +57,8 @@ impl Book {
     /// Every id, in the order in which the kind has patterns tried: a preferred one before the others.
     #[tactic(auto, using(crate::proofs::Trying::ordered))]
     pub fn order(&self) -> &[PatternID]
-        ensures same { map number result.now ≡ order_in self.now }
-        ensures order { ReadingOrder (book_of self.now) (map number result.now) }
+        ensures same { result.now ≡ order_in self.now }
+        ensures order { ReadingOrder (book_of self.now) result.now }
     {
         match self.table.kind {
             MatchKind::LeftmostFirst => self.table.entered.as_slice(),
@@ -68,7 +68,7 @@ impl Book {
 
     /// The bytes of a pattern; no bytes for an id that the book lacks.
     pub fn get(&self, id: PatternID) -> &[u8]
-        ensures { result.now ≡ pattern (book_of self.now) id.0.0 }
+        ensures { result.now ≡ pattern (book_of self.now) id }
     {
         self.table.pattern(id)
     }

@@ -43,7 +43,7 @@ impl RabinKarp {
     // Beside `find_here`, since that is proved by hand: an edit is to be refused at this line.
     /// The match of a pattern at a place, if its bytes stand there.
     fn verify(&self, id: PatternID, text: &[u8], start: usize) -> Option<Match>
-        ensures { Verified (searched self.now) id.0.0 text.now start result }
+        ensures { Verified (searched self.now) id text.now start result }
     {
         verify(&self.book, id, text, start)
     }

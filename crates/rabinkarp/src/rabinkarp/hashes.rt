@@ -11,8 +11,8 @@ use rules::primitives::PatternID;
 // Beside `hashes`, since that is proved by hand: an edit is to be refused at this line.
 /// The hash of a pattern's first bytes, as many as the shortest pattern has.
 fn front_hash(book: &Book, id: PatternID) -> usize
-    requires { id.0.0 < count_of (book_of book.now) }
-    ensures { result ≡ prefix_hash (book_of book.now) id.0.0 }
+    requires { id < count_of (book_of book.now) }
+    ensures { result ≡ prefix_hash (book_of book.now) id }
 {
     let front = &book.get(id)[..book.minimum_len()];
     hash(front)

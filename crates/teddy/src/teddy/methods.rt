@@ -1,6 +1,5 @@
 ghost use Rattle.std.specs.Prelude.{◌≡◌, ◌<◌, map};
 ghost use Rattle.rules.specs.Places.{Verified};
-ghost use Rattle.pattern.specs.Order.{number};
 ghost use Rattle.pattern.specs.Closed.{book_of};
 ghost use Rattle.buckets.specs.Buckets.{in_bucket};
 ghost use Rattle.masks.specs.Places.{MasksOf};
@@ -73,7 +72,7 @@ impl Teddy {
     /// The ids of a bucket, in the kind's order.
     pub(crate) fn bucket(&self, k: usize) -> &[PatternID]
         requires { k < 8 }
-        ensures { map number result.now ≡ in_bucket (key_in self.now.tables) (ids_in self.now.tables) k }
+        ensures { result.now ≡ in_bucket (key_in self.now.tables) (ids_in self.now.tables) k }
     {
         self.tables.buckets.bucket(k)
     }
@@ -81,7 +80,7 @@ impl Teddy {
     // Beside `windows`, since that is proved by hand: an edit is to be refused at this line.
     /// The match of a pattern at a place, if its bytes stand there.
     pub(crate) fn verify(&self, id: PatternID, text: &[u8], start: usize) -> Option<Match>
-        ensures { Verified (book_in self.now.tables) id.0.0 text.now start result }
+        ensures { Verified (book_in self.now.tables) id text.now start result }
     {
         verify(self.tables.rabinkarp.book(), id, text, start)
     }

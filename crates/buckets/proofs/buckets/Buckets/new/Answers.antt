@@ -1,6 +1,4 @@
 use Rattle.std.proofs.Common.{arith}
-use Rattle.std.proofs.lemmas.List.{length-map}
-use Rattle.pattern.specs.Order.{number}
 use Rattle.buckets.proofs.buckets.Buckets.new.Goals as goal
 
 pub group-requires : goal.group-requires
@@ -9,6 +7,6 @@ group-requires c =
     let o = c.order.ensures.order in
     let few = c.args.book.now.sound.within.few in
     record {
-      few = omega (arith, o.long, few, length-map xs number);
-      known = λ i l. omega (arith, o.known i (omega (arith, length-map xs number)), few);
+      few = omega (arith, o.long, few);
+      known = λ i l. omega (arith, o.known i (omega arith), few);
     }

@@ -1,5 +1,4 @@
-use Rattle.std.proofs.Common.{◌≡◌, ℕ, ◌%◌, ◌≤◌, map, length, get_or}
-use Rattle.pattern.specs.Order.{number}
+use Rattle.std.proofs.Common.{◌≡◌, ℕ, ◌%◌, ◌≤◌, length, get_or}
 use Rattle.buckets.specs.Buckets.{below}
 use Rattle.buckets.proofs.Counts.{Filled}
 use Rattle.buckets.proofs.buckets.methods.group.Given as goal
@@ -7,12 +6,12 @@ use Rattle.buckets.proofs.buckets.methods.group.Given as goal
 abbrev pub invariant-loop-k : goal.invariant-loop-k
 invariant-loop-k l =
     let key : ℕ → ℕ = λ id. get_or l.keys id 0 % 64 in
-    let order = map number l.order in
+    let order = l.order in
     record {
-      all : map number l.ids.items ≡ below key order l.k;
+      all : l.ids.items ≡ below key order l.k;
       long : length l.starts ≡ 65;
       started : (j : ℕ) → j ≤ l.k → get_or l.starts j 0 ≡ length (below key order j);
     }
 
 abbrev pub invariant-loop-id : goal.invariant-loop-id
-invariant-loop-id l = Filled (λ id. get_or l.keys id 0 % 64) (map number l.order) l.ids.items l.k l.id-index
+invariant-loop-id l = Filled (λ id. get_or l.keys id 0 % 64) l.order l.ids.items l.k l.id-index

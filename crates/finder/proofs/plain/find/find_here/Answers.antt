@@ -1,4 +1,4 @@
-use Rattle.std.proofs.Common.{sym, subst, arith, below_more}
+use Rattle.std.proofs.Common.{length, sym, subst, ap, arith, below_more}
 use Rattle.rules.specs.Book.{pattern}
 use Rattle.rules.specs.Search.{Stands}
 use Rattle.pattern.specs.Order.{ReadingOrder}
@@ -13,12 +13,14 @@ order c =
     record { known = o.known; all = λ j here. o.all j here.known; preferred = o.preferred }
 
 pub returns-in-Some : goal.returns-in-Some
-returns-in-Some c = chosen (order (goal.at.returns-in-Some c).After-order-id-items) c.order-id-items.result.now c.order-id-items.ensures.same c.loop-i._i c.loop-i-test.true c.in-Some.ensures.0 c.loop-i.invariant c.in-Some.hit c.in-Some.ensures.1
+returns-in-Some c =
+    let same = c.order-id-items.ensures.same in
+    chosen (order (goal.at.returns-in-Some c).After-order-id-items) c.loop-i._i c.id-item.result (omega (arith, ap length same, c.loop-i-test.true)) (read c.id-item.is c.loop-i-test.true same) c.in-Some.ensures.0 c.loop-i.invariant c.in-Some.hit c.in-Some.ensures.1
 
 pub loop-i-preserved : goal.loop-i-preserved
 loop-i-preserved c =
-    let is = read c.order-id-items.result.now (order_in c.args.book.now) c.loop-i._i c.order-id-items.ensures.same in
+    let is = read c.id-item.is c.loop-i-test.true c.order-id-items.ensures.same in
     below_more _ _ c.loop-i.invariant (λ st. c.in_default.ensures (subst (λ k. Stands (pattern (book_of c.args.book.now) k) c.args.text.now c.args.start) (sym is) st))
 
 pub returns : goal.returns
-returns c = none (order (goal.at.returns c).After-order-id-items) c.order-id-items.result.now c.order-id-items.ensures.same (λ j l. c.loop-i.invariant j (omega (arith, c.loop-i-test.false)))
+returns c = none (order (goal.at.returns c).After-order-id-items) (λ j l. c.loop-i.invariant j (omega (arith, ap length c.order-id-items.ensures.same, c.loop-i-test.false)))

@@ -1,44 +1,45 @@
-use Rattle.std.proofs.Common.{ℕ, ◌<◌, length, get_or, rc_value, sym, ap, ◌∙◌, subst, arith, below_more}
-use Rattle.rules.specs.Book.{id, pattern}
+use Rattle.std.proofs.Common.{◌<◌, length, get_or, rc_value, sym, ap, ◌∙◌, subst, arith, below_more}
+use Rattle.rules.specs.Book.{count_of, pattern}
 use Rattle.rules.specs.Search.{Stands}
-use Rattle.pattern.specs.Order.{number}
-use Rattle.finder.proofs.Choosing.{read, chosen, none}
+use Rattle.finder.proofs.Choosing.{chosen, none}
 use Rattle.rabinkarp.specs.Searched.{searched}
-use Rattle.rabinkarp.proofs.Bucket.{Opened, ids_of, names, tried, read_known, proposed}
+use Rattle.rabinkarp.proofs.Bucket.{Opened, names, tried, placed_at, read_known, proposed}
 use Rattle.rabinkarp.proofs.rabinkarp.RabinKarp.find_here.Goals as goal
-use Rattle.rabinkarp.proofs.rabinkarp.RabinKarp.find_here.Goals.{After-bucket-id-items, then-self-as_usize+in_default, else-self-as_usize}
+use Rattle.rabinkarp.proofs.rabinkarp.RabinKarp.find_here.Goals.{After-bucket-id-items, After-as_usize, then-self-as_usize+in_default, else-self-as_usize}
 
 opened : (c : After-bucket-id-items) → Opened c.args.self.now c.args.text.now c.args.start c.args.hash c.bucket-id-items.result.now
 opened c = record { is = c.requires; same = c.bucket-id-items.ensures }
 
-small : (c : After-bucket-id-items) (i : ℕ) → i < length c.bucket-id-items.result.now → number (get_or c.bucket-id-items.result.now i (id 0)) < 1024
-small c i l = omega (arith, read_known (opened c) i l, (rc_value c.args.self.now.book).sound.within.few)
+known : (c : After-as_usize) → c.id-item.result < count_of (searched c.args.self.now)
+known c = read_known (opened (goal.at.After-as_usize c).After-bucket-id-items) c.id-item.is c.loop-id-test.true
+
+small : (c : After-as_usize) → c.as_usize.result < 1024
+small c = omega (arith, c.as_usize.ensures.value, known c, (rc_value c.args.self.now.book).sound.within.few)
 
 pub offset_bounds-self-as_usize : goal.offset_bounds-self-as_usize
-offset_bounds-self-as_usize c = omega (arith, c.as_usize.ensures, small (goal.at.offset_bounds-self-as_usize c).After-bucket-id-items c.loop-id.id-index c.loop-id-test.true)
+offset_bounds-self-as_usize c = omega (arith, small (goal.at.offset_bounds-self-as_usize c).After-as_usize)
 
 pub bounds-self-as_usize : goal.bounds-self-as_usize
-bounds-self-as_usize c = omega (arith, c.as_usize.ensures, small (goal.at.bounds-self-as_usize c).After-bucket-id-items c.loop-id.id-index c.loop-id-test.true)
+bounds-self-as_usize c = small (goal.at.bounds-self-as_usize c).After-as_usize
 
 pub returns-in-Some : goal.returns-in-Some
 returns-in-Some c =
     let o = opened (goal.at.returns-in-Some c).After-bucket-id-items in
     let e = c.in-Some.ensures in
-    chosen (tried o) c.bucket-id-items.result.now (names o) c.loop-id.id-index c.loop-id-test.true e.0 c.loop-id.invariant c.in-Some.hit e.1
+    chosen (tried o) c.loop-id.id-index c.id-item.result (omega (arith, ap length (names o), c.loop-id-test.true)) (placed_at o c.id-item.is c.loop-id-test.true) e.0 c.loop-id.invariant c.in-Some.hit e.1
 
 pub loop-id-preserved : goal.loop-id-preserved
 loop-id-preserved c =
     let x = c.args.self.now in
-    let i = c.loop-id.id-index in
     let o = opened (goal.at.loop-id-preserved c).After-bucket-id-items in
     below_more _ _ c.loop-id.invariant (λ st.
-    let here = subst (λ k. Stands (pattern (searched x) k) c.args.text.now c.args.start) (sym (read c.bucket-id-items.result.now (ids_of x c.args.hash) i (names o))) st in
+    let here = subst (λ k. Stands (pattern (searched x) k) c.args.text.now c.args.start) (sym (placed_at o c.id-item.is c.loop-id-test.true)) st in
     elim c.if-self-as_usize.branch [
       | then-self-as_usize+in_default w ↦ w.in_default.ensures here
-      | else-self-as_usize w ↦ w.if-self-as_usize.false (ap (λ k. get_or x.hashes k 0) c.as_usize.ensures ∙ proposed o i c.loop-id-test.true here)
+      | else-self-as_usize w ↦ w.if-self-as_usize.false (ap (λ k. get_or x.hashes k 0) c.as_usize.ensures.value ∙ proposed o (known (goal.at.loop-id-preserved c).After-as_usize) here)
     ])
 
 pub returns : goal.returns
 returns c =
     let o = opened (goal.at.returns c).After-bucket-id-items in
-    none (tried o) c.bucket-id-items.result.now (names o) (λ j l. c.loop-id.invariant j (omega (arith, c.loop-id-test.false)))
+    none (tried o) (λ j l. c.loop-id.invariant j (omega (arith, ap length (names o), c.loop-id-test.false)))

@@ -1,10 +1,8 @@
 use Rattle.std.proofs.Common.{◌≡◌, ℕ, ◌+◌, ◌-◌, ◌*◌, ◌/◌, ◌%◌, ◌<◌, ◌≤◌, length, get_or, Some, None, sym, ap, ◌∙◌, subst, inl, inr, ⊎_elim, arith, below_more}
 use Rattle.std.proofs.lemmas.Bool.{cases_lt}
-use Rattle.std.proofs.lemmas.List.{length-map}
 use Rattle.rules.specs.Book.{pattern}
 use Rattle.rules.specs.Search.{Stands, hit}
 use Rattle.rules.proofs.Rule.{found_unique}
-use Rattle.pattern.specs.Order.{number}
 use Rattle.rabinkarp.specs.Searched.{shared}
 use Rattle.pattern.proofs.Shortest.{shortest_le}
 use Rattle.finder.proofs.Choosing.{read}
@@ -33,12 +31,12 @@ search-init g c =
 
 -- the ids of the bucket that is read
 long : (g : given.Over) (c : After-bucket-id-items g) → length (in_bucket (key_in c.args.self.now.teddy.tables) (ids_in c.args.self.now.teddy.tables) (c.in-Some.digit % 8)) ≡ length c.bucket-id-items.result.now
-long g c = sym (ap length c.bucket-id-items.ensures) ∙ length-map c.bucket-id-items.result.now number
+long g c = sym (ap length c.bucket-id-items.ensures)
 
 pub loop-id-preserved : goal.loop-id-preserved
 loop-id-preserved g c =
     let t = c.args.self.now.teddy.tables in
-    let is = read c.bucket-id-items.result.now (in_bucket (key_in t) (ids_in t) (c.in-Some.digit % 8)) c.loop-id.id-index c.bucket-id-items.ensures in
+    let is = read {ids = in_bucket (key_in t) (ids_in t) (c.in-Some.digit % 8)} c.id-item.is c.loop-id-test.true c.bucket-id-items.ensures in
     below_more _ _ c.loop-id.invariant
     (subst (λ k. Stands (pattern (book_in t) k) c.args.text.now (c.search.at - (c.masks-masks.result.count - 1) + 8 * c.loop-k.k + c.in-Some.digit / 8) → ⊥) is c.in_default-verify.ensures)
 
@@ -124,7 +122,7 @@ returns-in-Some-verify g c =
     let a = (goal.at.returns-in-Some-verify g c).After-bucket-id-items in
     let row = in_bucket (key_in t) (ids_in t) (bit % 8) in
     let within : 64 * k + bit ≤ 8 * g.V.Vector.count = omega (arith, took.within, c.lane_count-lanes.ensures, c.loop-k-test.true) in
-    let is = read c.bucket-id-items.result.now row c.loop-id.id-index c.bucket-id-items.ensures in
+    let is = read {ids = row} c.id-item.is c.loop-id-test.true c.bucket-id-items.ensures in
     let got = c.in-Some-verify.ensures in
     let text = c.args.text.now in
     let before : (x : ℕ) → 8 * c.args.from ≤ x → x < 8 * start → Sits (book_in t) text (key_in t) x → ⊥ =
