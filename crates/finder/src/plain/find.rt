@@ -7,6 +7,7 @@ ghost use Rattle.finder.specs.Plain.{searched};
 use crate::compare::verify;
 use crate::finder::Finder;
 use crate::plain::Plain;
+use crate::searcher::Searcher;
 use pattern::book::Book;
 use rules::primitives::Match;
 use std::rc::Rc;
@@ -38,10 +39,6 @@ impl Finder for Plain {
 
     ghost within = { λ x. (rc_value x.book).sound.within };
 
-    fn over(closed: Rc<Book>) -> Plain {
-        Plain::new(closed)
-    }
-
     fn pattern_count(&self) -> usize {
         self.book.len()
     }
@@ -55,5 +52,13 @@ impl Finder for Plain {
             }
         }
         None
+    }
+}
+
+impl Searcher for Plain {
+    type Setting = ();
+
+    fn over(closed: Rc<Book>, _setting: ()) -> Plain {
+        Plain::new(closed)
     }
 }

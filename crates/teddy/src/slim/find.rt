@@ -9,9 +9,9 @@ use crate::slim::Slim;
 use crate::teddy::Teddy;
 use bits::take_lowest;
 use finder::finder::Finder;
+use finder::searcher::Searcher;
 use masks::candidate::Seen;
 use pattern::book::Book;
-use pattern::patterns::methods::MAX_MASKS;
 use rules::primitives::Match;
 use std::marker::PhantomData;
 use std::rc::Rc;
@@ -76,11 +76,6 @@ impl<V: Vector> Finder for Slim<V> {
 
     ghost within = { λ x. (shared x.teddy.tables.rabinkarp).sound.within };
 
-    /// With as many masks as the book permits.
-    fn over(closed: Rc<Book>) -> Slim<V> {
-        Slim::new(closed, MAX_MASKS)
-    }
-
     fn pattern_count(&self) -> usize {
         self.teddy.tables.rabinkarp.pattern_count()
     }
@@ -90,5 +85,14 @@ impl<V: Vector> Finder for Slim<V> {
             return self.teddy.tables.rabinkarp.find(text, at);
         }
         self.windows(text, at)
+    }
+}
+
+impl<V: Vector> Searcher for Slim<V> {
+    /// The mask count; one that is not permitted becomes the nearest one.
+    type Setting = usize;
+
+    fn over(closed: Rc<Book>, setting: usize) -> Slim<V> {
+        Slim::new(closed, setting)
     }
 }
