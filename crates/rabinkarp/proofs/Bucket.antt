@@ -2,8 +2,8 @@
 use Rattle.std.proofs.Common.{◌≡◌, ℕ, ◌%◌, ◌<◌, List, map, length, get_or, rc_value, sym, ap, ◌∙◌, mod-lt, arith, lit<}
 use Rattle.std.proofs.lemmas.List.{length-map}
 use Rattle.rules.specs.declared.primitives.PatternID.{PatternID}
-use Rattle.rules.specs.Book.{id, count_of, pattern, shortest}
-use Rattle.rules.specs.Search.{Stands}
+use Rattle.rules.specs.Book.{id, count_of, shortest}
+use Rattle.rules.specs.Search.{OccursAt}
 use Rattle.pattern.specs.Order.{number}
 use Rattle.pattern.specs.Closed.{order_in}
 use Rattle.hash.specs.Hash.{hash_of, window}
@@ -30,16 +30,13 @@ module _ {x : RabinKarp} {t : List ℕ} {s h : ℕ} {xs : List PatternID} (o : O
 
   pub tried : TriedAt (searched x) t s (ids_of x h)
   tried = record {
-    known = bucket_known (rc_value x.book) (bucket_of (searched x)) (h % 64);
     all = λ j here. bucket_all (rc_value x.book) (bucket_of (searched x)) (h % 64) j here.known (ap (λ n. n % 64) (standing_hash (searched x) t j s here.known here.stands ∙ sym o.is));
     preferred = bucket_preferred (rc_value x.book) (bucket_of (searched x)) (h % 64);
   }
 
   pub read_known : (i : ℕ) → i < length xs → number (get_or xs i (id 0)) < count_of (searched x)
-  read_known i l = omega (arith, read xs (ids_of x h) i names, tried.known i (omega (arith, ap length names, length-map xs number)))
+  read_known i l = omega (arith, read xs (ids_of x h) i names, bucket_known (rc_value x.book) (bucket_of (searched x)) (h % 64) i (omega (arith, ap length names, length-map xs number)))
 
-  -- a pattern that stands there has the hash, so its bytes are compared
-  pub proposed : (i : ℕ) → i < length xs → Stands (pattern (searched x) (number (get_or xs i (id 0)))) t s → get_or x.hashes (number (get_or xs i (id 0))) 0 ≡ h
-  proposed i l st =
-      let known = read_known i l in
-      x.hashed (number (get_or xs i (id 0))) known ∙ (standing_hash (searched x) t (number (get_or xs i (id 0))) s known st ∙ sym o.is)
+  -- a pattern that occurs there has the hash, so its bytes are compared
+  pub proposed : (j : ℕ) → OccursAt (searched x) t j s → get_or x.hashes j 0 ≡ h
+  proposed j here = x.hashed j here.known ∙ (standing_hash (searched x) t j s here.known here.stands ∙ sym o.is)

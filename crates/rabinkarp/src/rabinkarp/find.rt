@@ -42,7 +42,7 @@ impl RabinKarp {
     }
 
     // Beside `find_here`, since that is proved by hand: an edit is to be refused at this line.
-    /// The match of a pattern at a place, if its bytes stand there.
+    /// The match of a pattern at a place, if it occurs there.
     fn verify(&self, id: PatternID, text: &[u8], start: usize) -> Option<Match>
         ensures { Verified (searched self.now) id.0.0 text.now start result }
     {

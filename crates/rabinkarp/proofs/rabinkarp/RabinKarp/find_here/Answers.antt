@@ -1,6 +1,6 @@
 use Rattle.std.proofs.Common.{ℕ, ◌<◌, length, get_or, rc_value, sym, ap, ◌∙◌, subst, arith, below_more}
-use Rattle.rules.specs.Book.{id, pattern}
-use Rattle.rules.specs.Search.{Stands}
+use Rattle.rules.specs.Book.{id}
+use Rattle.rules.specs.Search.{OccursAt}
 use Rattle.pattern.specs.Order.{number}
 use Rattle.finder.proofs.Choosing.{read, chosen, none}
 use Rattle.rabinkarp.specs.Searched.{searched}
@@ -24,7 +24,7 @@ pub returns-in-Some : goal.returns-in-Some
 returns-in-Some c =
     let o = opened (goal.at.returns-in-Some c).After-bucket-id-items in
     let e = c.in-Some.ensures in
-    chosen (tried o) c.bucket-id-items.result.now (names o) c.loop-id.id-index c.loop-id-test.true e.0 c.loop-id.invariant c.in-Some.hit e.1
+    chosen (tried o) c.bucket-id-items.result.now (names o) c.loop-id.id-index e.0 c.loop-id.invariant c.in-Some.hit e.1
 
 pub loop-id-preserved : goal.loop-id-preserved
 loop-id-preserved c =
@@ -32,10 +32,10 @@ loop-id-preserved c =
     let i = c.loop-id.id-index in
     let o = opened (goal.at.loop-id-preserved c).After-bucket-id-items in
     below_more _ _ c.loop-id.invariant (λ st.
-    let here = subst (λ k. Stands (pattern (searched x) k) c.args.text.now c.args.start) (sym (read c.bucket-id-items.result.now (ids_of x c.args.hash) i (names o))) st in
+    let here = subst (λ k. OccursAt (searched x) c.args.text.now k c.args.start) (sym (read c.bucket-id-items.result.now (ids_of x c.args.hash) i (names o))) st in
     elim c.if-self-as_usize.branch [
       | then-self-as_usize+in_default w ↦ w.in_default.ensures here
-      | else-self-as_usize w ↦ w.if-self-as_usize.false (ap (λ k. get_or x.hashes k 0) c.as_usize.ensures ∙ proposed o i c.loop-id-test.true here)
+      | else-self-as_usize w ↦ w.if-self-as_usize.false (ap (λ k. get_or x.hashes k 0) c.as_usize.ensures ∙ proposed o _ here)
     ])
 
 pub returns : goal.returns

@@ -1,8 +1,7 @@
 use Rattle.std.proofs.Common.{◌≡◌, ℕ, ◌+◌, ◌-◌, ◌*◌, ◌/◌, ◌%◌, ◌<◌, ◌≤◌, length, get_or, Some, None, sym, ap, ◌∙◌, subst, inl, inr, ⊎_elim, arith, below_more}
 use Rattle.std.proofs.lemmas.Bool.{cases_lt}
 use Rattle.std.proofs.lemmas.List.{length-map}
-use Rattle.rules.specs.Book.{pattern}
-use Rattle.rules.specs.Search.{Stands, hit}
+use Rattle.rules.specs.Search.{OccursAt, hit}
 use Rattle.rules.proofs.Rule.{found_unique}
 use Rattle.pattern.specs.Order.{number}
 use Rattle.rabinkarp.specs.Searched.{shared}
@@ -40,7 +39,7 @@ loop-id-preserved g c =
     let t = c.args.self.now.teddy.tables in
     let is = read c.bucket-id-items.result.now (in_bucket (key_in t) (ids_in t) (c.in-Some.digit % 8)) c.loop-id.id-index c.bucket-id-items.ensures in
     below_more _ _ c.loop-id.invariant
-    (subst (λ k. Stands (pattern (book_in t) k) c.args.text.now (c.search.at - (c.masks-masks.result.count - 1) + 8 * c.loop-k.k + c.in-Some.digit / 8) → ⊥) is c.in_default-verify.ensures)
+    (subst (λ k. OccursAt (book_in t) c.args.text.now k (c.search.at - (c.masks-masks.result.count - 1) + 8 * c.loop-k.k + c.in-Some.digit / 8) → ⊥) is c.in_default-verify.ensures)
 
 pub loop-digit-preserved : goal.loop-digit-preserved
 loop-digit-preserved g c =
@@ -141,7 +140,7 @@ returns-in-Some-verify g c =
     (cases_lt y (64 * k)))
     x lo (omega arith) in
     let hits = hit_answers (shared t.rabinkarp) text (bit % 8) start c.args.from c.loop-id.id-index (omega (arith, c.search.invariant.low)) (omega (arith, long g a, c.loop-id-test.true))
-    (subst (λ m. Stands (pattern (book_in t) m) text start) is got.0) c.loop-id.invariant before in
+    (subst (λ m. OccursAt (book_in t) text m start) is got.0) c.loop-id.invariant before in
     ap Some (got.1 ∙ ap (λ m. hit (book_in t) m start) is) ∙ found_unique (book_in t) text c.args.from (Some (hit (book_in t) (get_or row c.loop-id.id-index 0) start)) hits
 
 -- no digit of the text is left behind the last window

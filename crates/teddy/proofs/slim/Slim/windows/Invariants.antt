@@ -1,6 +1,5 @@
 use Rattle.std.proofs.Common.{ℕ, ◌+◌, ◌-◌, ◌*◌, ◌%◌, ◌<◌, ◌≤◌, ◌⊎◌, get_or}
-use Rattle.rules.specs.Book.{pattern}
-use Rattle.rules.specs.Search.{Stands}
+use Rattle.rules.specs.Search.{OccursAt}
 use Rattle.bits.specs.Digits.{IsSet}
 use Rattle.vector.specs.Lanes.{lane64}
 use Rattle.buckets.specs.Buckets.{in_bucket}
@@ -43,4 +42,4 @@ decreases-loop-digit g l = l.rest
 abbrev pub invariant-loop-id : goal.invariant-loop-id
 invariant-loop-id g l =
     let t = l.self.teddy.tables in
-    (j : ℕ) → j < l.id-index → Stands (pattern (book_in t) (get_or (in_bucket (key_in t) (ids_in t) (l.bit % 8)) j 0)) l.text l.start → ⊥
+    (j : ℕ) → j < l.id-index → OccursAt (book_in t) l.text (get_or (in_bucket (key_in t) (ids_in t) (l.bit % 8)) j 0) l.start → ⊥
