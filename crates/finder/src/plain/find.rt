@@ -16,9 +16,10 @@ use std::rc::Rc;
 fn find_here(book: &Book, text: &[u8], start: usize) -> Option<Match>
     ensures { AnswersAt (book_of book.now) text.now start result }
 {
-    // The order table with its index, of which the invariant speaks: a rule of the project.
-    for (_i, id) in book.order().iter().enumerate() {
-        if let Some(hit) = verify(book, *id, text, start) {
+    let order = book.order();
+    // Over the order table with its index: what was tried in vain so far is the table up to there. A rule of the project.
+    for i in 0..order.len() {
+        if let Some(hit) = verify(book, order[i], text, start) {
             return Some(hit);
         }
     }

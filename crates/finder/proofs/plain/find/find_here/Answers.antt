@@ -4,20 +4,20 @@ use Rattle.pattern.specs.Order.{ReadingOrder}
 use Rattle.pattern.specs.Closed.{book_of, order_in}
 use Rattle.finder.proofs.Choosing.{read, TriedAt, chosen, none}
 use Rattle.finder.proofs.plain.find.find_here.Goals as goal
-use Rattle.finder.proofs.plain.find.find_here.Goals.{After-order-id-items}
+use Rattle.finder.proofs.plain.find.find_here.Goals.{After-order-order}
 
-order : (c : After-order-id-items) → TriedAt (book_of c.args.book.now) c.args.text.now c.args.start (order_in c.args.book.now)
+order : (c : After-order-order) → TriedAt (book_of c.args.book.now) c.args.text.now c.args.start (order_in c.args.book.now)
 order c =
-    let o = subst (ReadingOrder (book_of c.args.book.now)) c.order-id-items.ensures.same c.order-id-items.ensures.order in
+    let o = subst (ReadingOrder (book_of c.args.book.now)) c.order-order.ensures.same c.order-order.ensures.order in
     record { all = λ j here. o.all j here.known; preferred = o.preferred }
 
 pub returns-in-Some : goal.returns-in-Some
-returns-in-Some c = chosen (order (goal.at.returns-in-Some c).After-order-id-items) c.order-id-items.result.now c.order-id-items.ensures.same c.loop-i._i c.in-Some.ensures.0 c.loop-i.invariant c.in-Some.hit c.in-Some.ensures.1
+returns-in-Some c = chosen (order (goal.at.returns-in-Some c).After-order-order) c.order-order.result.now c.order-order.ensures.same c.loop-i.i c.in-Some.ensures.0 c.loop-i.invariant c.in-Some.hit c.in-Some.ensures.1
 
 pub loop-i-preserved : goal.loop-i-preserved
 loop-i-preserved c =
-    let is = read c.order-id-items.result.now (order_in c.args.book.now) c.loop-i._i c.order-id-items.ensures.same in
+    let is = read c.order-order.result.now (order_in c.args.book.now) c.loop-i.i c.order-order.ensures.same in
     below_more _ _ c.loop-i.invariant (subst (λ k. OccursAt (book_of c.args.book.now) c.args.text.now k c.args.start → ⊥) is c.in_default.ensures)
 
 pub returns : goal.returns
-returns c = none (order (goal.at.returns c).After-order-id-items) c.order-id-items.result.now c.order-id-items.ensures.same (λ j l. c.loop-i.invariant j (omega (arith, c.loop-i-test.false)))
+returns c = none (order (goal.at.returns c).After-order-order) c.order-order.result.now c.order-order.ensures.same (λ j l. c.loop-i.invariant j (omega (arith, c.loop-i-test.false)))
