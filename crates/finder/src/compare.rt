@@ -22,12 +22,15 @@ pub fn stands(pattern: &[u8], text: &[u8], start: usize) -> bool
     true
 }
 
-/// The match of a pattern at a place, if its bytes stand there.
+/// The match of a pattern at a place, if it occurs there. An id that the book lacks occurs nowhere.
 pub fn verify(book: &Book, id: PatternID, text: &[u8], start: usize) -> Option<Match>
     ensures { Verified (book_of book.now) id text.now start result }
 {
     let pattern = book.get(id);
-    stands(pattern, text, start).then(|| Match {
+    // An id that the book lacks has no bytes, and no bytes stand everywhere. It is looked for only where bytes stand, since at
+    // most places where a search compares none do.
+    let occurs = stands(pattern, text, start) && id.as_usize() < book.len();
+    occurs.then(|| Match {
         pattern: id,
         start,
         end: start + pattern.len(),

@@ -1,19 +1,12 @@
 ghost use Rattle.std.specs.Prelude.{◌≡◌};
 ghost use Rattle.rules.specs.Book.{Book, Within, count_of};
 ghost use Rattle.rules.specs.Search.{found};
-ghost use Rattle.pattern.specs.Closed.{book_of};
 
-use pattern::book::Book;
 use rules::primitives::Match;
-use std::rc::Rc;
 
 /// A searcher, by the closed book that it was made of.
 pub trait Finder {
     ghost book: { Self → Book };
-
-    /// A searcher over a closed book.
-    fn over(closed: Rc<Book>) -> Self
-        ensures { book result ≡ book_of closed.value };
 
     /// How many patterns the book has.
     fn pattern_count(&self) -> usize

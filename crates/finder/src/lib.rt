@@ -5,3 +5,4 @@
 pub mod compare;
 pub mod finder;
 pub mod plain;
+pub mod searcher;

@@ -1,7 +1,7 @@
 -- What a searcher's tables say of its book.
 use Rattle.std.proofs.Common.{◌≡◌, ℕ, ◌%◌, ◌<◌, List, length, get_or, rc_value, sym, ap, ◌∙◌, mod-lt, arith, lit<}
-use Rattle.rules.specs.Book.{count_of, pattern, shortest}
-use Rattle.rules.specs.Search.{Stands}
+use Rattle.rules.specs.Book.{count_of, shortest}
+use Rattle.rules.specs.Search.{OccursAt}
 use Rattle.pattern.specs.Closed.{order_in}
 use Rattle.hash.specs.Hash.{hash_of, window}
 use Rattle.buckets.specs.Buckets.{members, in_bucket}
@@ -27,7 +27,6 @@ module _ {x : RabinKarp} {t : List ℕ} {s h : ℕ} {xs : List ℕ} (o : Opened 
 
   pub tried : TriedAt (searched x) t s (ids_of x h)
   tried = record {
-    known = bucket_known (rc_value x.book) (bucket_of (searched x)) (h % 64);
     all = λ j here. bucket_all (rc_value x.book) (bucket_of (searched x)) (h % 64) j here.known (ap (λ n. n % 64) (standing_hash (searched x) t j s here.known here.stands ∙ sym o.is));
     preferred = bucket_preferred (rc_value x.book) (bucket_of (searched x)) (h % 64);
   }
@@ -37,8 +36,8 @@ module _ {x : RabinKarp} {t : List ℕ} {s h : ℕ} {xs : List ℕ} (o : Opened 
   placed_at is l = read is l names
 
   pub read_known : {i id : ℕ} → id ≡ get_or xs i id → i < length xs → id < count_of (searched x)
-  read_known {i} is l = omega (arith, placed_at is l, tried.known i (omega (arith, ap length names)))
+  read_known {i} is l = omega (arith, placed_at is l, bucket_known (rc_value x.book) (bucket_of (searched x)) (h % 64) i (omega (arith, ap length names)))
 
-  -- a pattern that stands there has the hash, so its bytes are compared
-  pub proposed : {id : ℕ} → id < count_of (searched x) → Stands (pattern (searched x) id) t s → get_or x.hashes id 0 ≡ h
-  proposed {id} known st = x.hashed id known ∙ (standing_hash (searched x) t id s known st ∙ sym o.is)
+  -- a pattern that occurs there has the hash, so its bytes are compared
+  pub proposed : {id : ℕ} → OccursAt (searched x) t id s → get_or x.hashes id 0 ≡ h
+  proposed {id} here = x.hashed id here.known ∙ (standing_hash (searched x) t id s here.known here.stands ∙ sym o.is)

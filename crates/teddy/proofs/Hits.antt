@@ -3,14 +3,14 @@ use Rattle.std.proofs.Common.{◌≡◌, ℕ, ◌+◌, ◌-◌, ◌*◌, ◌/◌
 use Rattle.std.proofs.ByRecursion.{All-get_or, kept_by_passes}
 use Rattle.std.proofs.lemmas.Bool.{eqb-true}
 use Rattle.rules.specs.Book.{Book, pattern}
-use Rattle.rules.specs.Search.{Stands, OccursAt, Answers, id_of, hit}
+use Rattle.rules.specs.Search.{OccursAt, Answers, id_of, hit}
 use Rattle.rules.specs.Places.{Chosen}
 use Rattle.rules.proofs.Rule.{settled}
 use Rattle.pattern.specs.declared.book.Book.{Book as Closed}
 use Rattle.pattern.specs.Closed.{book_of, order_in}
 use Rattle.finder.proofs.Choosing.{chosen_first}
 use Rattle.buckets.specs.Buckets.{in_bucket}
-use Rattle.buckets.proofs.Members.{ordered, bucket_known, bucket_all, bucket_preferred}
+use Rattle.buckets.proofs.Members.{ordered, bucket_all, bucket_preferred}
 use Rattle.pattern.proofs.Shortest.{shortest_le}
 use Rattle.tables.specs.Buckets.{front, bucket_of}
 use Rattle.tables.specs.Masks.{byte_of}
@@ -59,21 +59,20 @@ module _ (c : Closed) (text : List ℕ) where
   -- the bucket k at the place s
   module _ (k s : ℕ) where
     -- all of it were tried in vain
-    pub tried : (x : ℕ) → x / 8 ≡ s → x % 8 ≡ k → ((j : ℕ) → j < length (in_bucket (key_of c) (order_in c) k) → Stands (pattern (book_of c) (get_or (in_bucket (key_of c) (order_in c) k) j 0)) text s → ⊥) → Sits (book_of c) text (key_of c) x → ⊥
+    pub tried : (x : ℕ) → x / 8 ≡ s → x % 8 ≡ k → ((j : ℕ) → j < length (in_bucket (key_of c) (order_in c) k) → OccursAt (book_of c) text (get_or (in_bucket (key_of c) (order_in c) k) j 0) s → ⊥) → Sits (book_of c) text (key_of c) x → ⊥
     tried x place digit none z =
         let at = bucket_all c (key_of c) k z.0 z.1.known (z.2 ∙ digit) in
-        none at.0 at.1 (subst (λ m. Stands (pattern (book_of c) m) text s) (sym at.2) (subst (Stands (pattern (book_of c) z.0) text) place z.1.stands))
+        none at.0 at.1 (subst (λ m. OccursAt (book_of c) text m s) (sym at.2) (subst (OccursAt (book_of c) text z.0) place z.1))
 
-    -- its member i is the first that stands there, and no pattern occurs before
-    pub hit_answers : (from i : ℕ) → from ≤ s → i < length (in_bucket (key_of c) (order_in c) k) → Stands (pattern (book_of c) (get_or (in_bucket (key_of c) (order_in c) k) i 0)) text s
-        → ((j : ℕ) → j < i → Stands (pattern (book_of c) (get_or (in_bucket (key_of c) (order_in c) k) j 0)) text s → ⊥)
+    -- its member i is the first that occurs there, and no pattern occurs before
+    pub hit_answers : (from i : ℕ) → from ≤ s → i < length (in_bucket (key_of c) (order_in c) k) → OccursAt (book_of c) text (get_or (in_bucket (key_of c) (order_in c) k) i 0) s
+        → ((j : ℕ) → j < i → OccursAt (book_of c) text (get_or (in_bucket (key_of c) (order_in c) k) j 0) s → ⊥)
         → ((x : ℕ) → 8 * from ≤ x → x < 8 * s → Sits (book_of c) text (key_of c) x → ⊥)
         → Answers (book_of c) text from (Some (hit (book_of c) (get_or (in_bucket (key_of c) (order_in c) k) i 0) s))
-    hit_answers from i le il stands before clean =
+    hit_answers from i le il here before clean =
         let b = book_of c in
         let ids = in_bucket (key_of c) (order_in c) k in
         let m = get_or ids i 0 in
-        let here : OccursAt b text m s = record { known = bucket_known c (key_of c) k i il; stands = stands } in
         let has : (j : ℕ) → OccursAt b text j s → (a : ℕ) × (a < length ids) × (get_or ids a 0 ≡ j) =
         λ j o. bucket_all c (key_of c) k j o.known (shares j m s o here ∙ member_key (key_of c) (order_in c) k i il) in
         let chosen : Chosen b text s (hit b m s) = record { occurs = here; start = refl; end = refl; first = chosen_first b text ids s i has (bucket_preferred c (key_of c) k) before } in

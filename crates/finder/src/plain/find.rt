@@ -7,6 +7,7 @@ ghost use Rattle.finder.specs.Plain.{searched};
 use crate::compare::verify;
 use crate::finder::Finder;
 use crate::plain::Plain;
+use crate::searcher::Searcher;
 use pattern::book::Book;
 use rules::primitives::Match;
 use std::rc::Rc;
@@ -15,9 +16,10 @@ use std::rc::Rc;
 fn find_here(book: &Book, text: &[u8], start: usize) -> Option<Match>
     ensures { AnswersAt (book_of book.now) text.now start result }
 {
-    // The order table with its index, of which the invariant speaks: a rule of the project.
-    for (_i, id) in book.order().iter().enumerate() {
-        if let Some(hit) = verify(book, *id, text, start) {
+    let order = book.order();
+    // Over the order table with its index: what was tried in vain so far is the table up to there. A rule of the project.
+    for i in 0..order.len() {
+        if let Some(hit) = verify(book, order[i], text, start) {
             return Some(hit);
         }
     }
@@ -38,10 +40,6 @@ impl Finder for Plain {
 
     ghost within = { λ x. (rc_value x.book).sound.within };
 
-    fn over(closed: Rc<Book>) -> Plain {
-        Plain::new(closed)
-    }
-
     fn pattern_count(&self) -> usize {
         self.book.len()
     }
@@ -55,5 +53,13 @@ impl Finder for Plain {
             }
         }
         None
+    }
+}
+
+impl Searcher for Plain {
+    type Setting = ();
+
+    fn over(closed: Rc<Book>, _setting: ()) -> Plain {
+        Plain::new(closed)
     }
 }

@@ -10,6 +10,7 @@ use crate::rabinkarp::hashes::hashes;
 use buckets::buckets::Buckets;
 use finder::compare::verify;
 use finder::finder::Finder;
+use finder::searcher::Searcher;
 use hash::{hash, hash_2pow, update_hash};
 use pattern::book::Book;
 use rules::primitives::{Match, PatternID};
@@ -41,7 +42,7 @@ impl RabinKarp {
     }
 
     // Beside `find_here`, since that is proved by hand: an edit is to be refused at this line.
-    /// The match of a pattern at a place, if its bytes stand there.
+    /// The match of a pattern at a place, if it occurs there.
     fn verify(&self, id: PatternID, text: &[u8], start: usize) -> Option<Match>
         ensures { Verified (searched self.now) id text.now start result }
     {
@@ -71,10 +72,6 @@ impl Finder for RabinKarp {
 
     ghost within = { λ x. (shared x).sound.within };
 
-    fn over(closed: Rc<Book>) -> RabinKarp {
-        RabinKarp::new(closed)
-    }
-
     fn pattern_count(&self) -> usize {
         self.book.len()
     }
@@ -91,5 +88,13 @@ impl Finder for RabinKarp {
             hash = update_hash(hash, self.hash_2pow, text[start], text[start + len]);
         }
         self.find_here(text, text.len() - len, hash)
+    }
+}
+
+impl Searcher for RabinKarp {
+    type Setting = ();
+
+    fn over(closed: Rc<Book>, _setting: ()) -> RabinKarp {
+        RabinKarp::new(closed)
     }
 }

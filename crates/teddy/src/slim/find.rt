@@ -9,9 +9,9 @@ use crate::slim::Slim;
 use crate::teddy::Teddy;
 use bits::take_lowest;
 use finder::finder::Finder;
+use finder::searcher::Searcher;
 use masks::candidate::Seen;
 use pattern::book::Book;
-use pattern::patterns::methods::MAX_MASKS;
 use rules::primitives::Match;
 use std::marker::PhantomData;
 use std::rc::Rc;
@@ -41,18 +41,20 @@ impl<V: Vector> Slim<V> {
         let end = text.len() - lanes;
         let mut seen = Seen::blank();
         let mut at = from + back;
-        // Loops with a labelled break, and no chain of iterators: a rule of the project.
-        'search: loop {
+        // Four loops with a labelled break, and no chain of iterators: a rule of the project. Each is labelled as the step that it
+        // is in the Rust: `find` goes over windows, `verify` over the 64-bit lanes of one, `verify64` over the digits set in a
+        // lane, `verify_bucket` over the patterns of a digit's bucket. A hit ends them all.
+        'find: loop {
             let found = masks.window(text, at, &mut seen);
             if !found.is_zero() {
-                for k in 0..lanes / 8 {
+                'verify: for k in 0..lanes / 8 {
                     let mut rest = found.lane_64(k);
-                    while let Some(digit) = take_lowest(&mut rest) {
+                    'verify64: while let Some(digit) = take_lowest(&mut rest) {
                         let bit = digit as usize;
                         let start = at - back + 8 * k + bit / 8;
-                        for id in self.teddy.bucket(bit % 8) {
+                        'verify_bucket: for id in self.teddy.bucket(bit % 8) {
                             if let Some(hit) = self.teddy.verify(*id, text, start) {
-                                break 'search Some(hit);
+                                break 'find Some(hit);
                             }
                         }
                     }
@@ -76,11 +78,6 @@ impl<V: Vector> Finder for Slim<V> {
 
     ghost within = { λ x. (shared x.teddy.tables.rabinkarp).sound.within };
 
-    /// With as many masks as the book permits.
-    fn over(closed: Rc<Book>) -> Slim<V> {
-        Slim::new(closed, MAX_MASKS)
-    }
-
     fn pattern_count(&self) -> usize {
         self.teddy.tables.rabinkarp.pattern_count()
     }
@@ -90,5 +87,14 @@ impl<V: Vector> Finder for Slim<V> {
             return self.teddy.tables.rabinkarp.find(text, at);
         }
         self.windows(text, at)
+    }
+}
+
+impl<V: Vector> Searcher for Slim<V> {
+    /// The mask count; one that is not permitted becomes the nearest one.
+    type Setting = usize;
+
+    fn over(closed: Rc<Book>, setting: usize) -> Slim<V> {
+        Slim::new(closed, setting)
     }
 }

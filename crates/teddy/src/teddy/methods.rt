@@ -78,7 +78,7 @@ impl Teddy {
     }
 
     // Beside `windows`, since that is proved by hand: an edit is to be refused at this line.
-    /// The match of a pattern at a place, if its bytes stand there.
+    /// The match of a pattern at a place, if it occurs there.
     pub(crate) fn verify(&self, id: PatternID, text: &[u8], start: usize) -> Option<Match>
         ensures { Verified (book_in self.now.tables) id text.now start result }
     {

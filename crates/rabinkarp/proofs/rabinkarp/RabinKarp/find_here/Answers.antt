@@ -1,6 +1,6 @@
 use Rattle.std.proofs.Common.{◌<◌, length, get_or, rc_value, sym, ap, ◌∙◌, subst, arith, below_more}
-use Rattle.rules.specs.Book.{count_of, pattern}
-use Rattle.rules.specs.Search.{Stands}
+use Rattle.rules.specs.Book.{count_of}
+use Rattle.rules.specs.Search.{OccursAt}
 use Rattle.finder.proofs.Choosing.{chosen, none}
 use Rattle.rabinkarp.specs.Searched.{searched}
 use Rattle.rabinkarp.proofs.Bucket.{Opened, names, tried, placed_at, read_known, proposed}
@@ -26,17 +26,17 @@ pub returns-in-Some : goal.returns-in-Some
 returns-in-Some c =
     let o = opened (goal.at.returns-in-Some c).After-bucket-id-items in
     let e = c.in-Some.ensures in
-    chosen (tried o) c.loop-id.id-index c.id-item.result (omega (arith, ap length (names o), c.loop-id-test.true)) (placed_at o c.id-item.is c.loop-id-test.true) e.0 c.loop-id.invariant c.in-Some.hit e.1
+    chosen (tried o) c.loop-id.id-index c.id-item.result (placed_at o c.id-item.is c.loop-id-test.true) e.0 c.loop-id.invariant c.in-Some.hit e.1
 
 pub loop-id-preserved : goal.loop-id-preserved
 loop-id-preserved c =
     let x = c.args.self.now in
     let o = opened (goal.at.loop-id-preserved c).After-bucket-id-items in
     below_more _ _ c.loop-id.invariant (λ st.
-    let here = subst (λ k. Stands (pattern (searched x) k) c.args.text.now c.args.start) (sym (placed_at o c.id-item.is c.loop-id-test.true)) st in
+    let here = subst (λ k. OccursAt (searched x) c.args.text.now k c.args.start) (sym (placed_at o c.id-item.is c.loop-id-test.true)) st in
     elim c.if-self-as_usize.branch [
       | then-self-as_usize+in_default w ↦ w.in_default.ensures here
-      | else-self-as_usize w ↦ w.if-self-as_usize.false (ap (λ k. get_or x.hashes k 0) c.as_usize.ensures.value ∙ proposed o (known (goal.at.loop-id-preserved c).After-as_usize) here)
+      | else-self-as_usize w ↦ w.if-self-as_usize.false (ap (λ k. get_or x.hashes k 0) c.as_usize.ensures.value ∙ proposed o here)
     ])
 
 pub returns : goal.returns

@@ -1,9 +1,8 @@
 use Rattle.std.proofs.Common.{ℕ, ◌<◌, get_or}
-use Rattle.rules.specs.Book.{pattern}
-use Rattle.rules.specs.Search.{Stands}
+use Rattle.rules.specs.Search.{OccursAt}
 use Rattle.rabinkarp.specs.Searched.{searched}
 use Rattle.rabinkarp.proofs.Bucket.{ids_of}
 use Rattle.rabinkarp.proofs.rabinkarp.RabinKarp.find_here.Given as goal
 
 abbrev pub invariant-loop-id : goal.invariant-loop-id
-invariant-loop-id l = (j : ℕ) → j < l.id-index → Stands (pattern (searched l.self) (get_or (ids_of l.self l.hash) j 0)) l.text l.start → ⊥
+invariant-loop-id l = (j : ℕ) → j < l.id-index → OccursAt (searched l.self) l.text (get_or (ids_of l.self l.hash) j 0) l.start → ⊥
