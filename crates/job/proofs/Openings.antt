@@ -10,7 +10,7 @@ use Rattle.pattern.specs.Entering.{entering}
 use Rattle.rules.specs.Faults.{refused}
 use Rattle.job.specs.Format.{Entry, pattern, first, longest, text, over, bad, good, step}
 use Rattle.job.specs.Records.{Item, Reading, item, put, reading}
-use Rattle.job.specs.Opening.{is_text, heading, texts_from, texts, entered_or, takes, and_then, fill, closes, closed_at, opening, Lacks, LacksAmong, Starves, Refuses}
+use Rattle.job.specs.Opening.{is_text, heading, texts_from, texts, entered_or, takes, and_then, fill, closes, closed_at, opening, Lacks, LacksAmong, LacksMemory, Refuses}
 use Rattle.job.proofs.Steps.{step_end}
 use Rattle.job.proofs.Readings.{reading_good, reading_bad, reading_over}
 
@@ -58,7 +58,7 @@ refuses_step b at e r n f other (inl d) = inl (opening_step b at e r n other ∙
 refuses_step b at e r n f other (inr w) = inr (lacks_here b at e r f w)
 
 -- The loop that fills the book of a job: b is the book so far, and at is the place of the next record.
-module _ (job : List ℕ) (b : Book) (at : ℕ) (so_far : opening empty (reading job 0) (length job) ≡ opening b (reading job at) (length job)) (left : texts (reading job 0) ≡ texts (reading job at)) (starved : (f : Fault) → LacksAmong b (heading (reading job at).items) f → LacksAmong empty (heading (reading job 0).items) f) where
+module _ (job : List ℕ) (b : Book) (at : ℕ) (so_far : opening empty (reading job 0) (length job) ≡ opening b (reading job at) (length job)) (left : texts (reading job 0) ≡ texts (reading job at)) (lacking : (f : Fault) → LacksAmong b (heading (reading job at).items) f → LacksAmong empty (heading (reading job 0).items) f) where
   pub fill_text : (t : List ℕ) (next : ℕ) → step job at ≡ good (text t) next → (opening empty (reading job 0) (length job) ≡ closes b at) × (reading job at ≡ texts (reading job 0))
   fill_text t next h =
       let is = reading_good job at next (text t) h in
@@ -69,7 +69,7 @@ module _ (job : List ℕ) (b : Book) (at : ℕ) (so_far : opening empty (reading
       let is = reading_good job at next e h in (
         so_far ∙ ap (λ r. opening b r (length job)) is ∙ opening_step b at e (reading job next) (length job) other ∙ ap (λ x. and_then x (λ d. opening d (reading job next) (length job))) took,
         left ∙ ap texts is ∙ texts_step at e (reading job next) other,
-        λ f w. starved f (subst (λ (r : Reading). LacksAmong b (heading r.items) f) (sym is) (lacks_behind b c at e (reading job next) f other took w)),
+        λ f w. lacking f (subst (λ (r : Reading). LacksAmong b (heading r.items) f) (sym is) (lacks_behind b c at e (reading job next) f other took w)),
       )
 
   pub fill_fault : (e : Entry) (next : ℕ) (f : Fault) → step job at ≡ good e next → is_text e ≡ false → Refuses (takes b at e) (Lacks b at e) f → Refuses (opening empty (reading job 0) (length job)) (LacksAmong empty (heading (reading job 0).items)) f
@@ -77,7 +77,7 @@ module _ (job : List ℕ) (b : Book) (at : ℕ) (so_far : opening empty (reading
       let is = reading_good job at next e h in
       elim (refuses_step b at e (reading job next) (length job) f other r) [
         | inl d ↦ inl (so_far ∙ ap (λ x. opening b x (length job)) is ∙ d)
-        | inr w ↦ inr (starved f (subst (λ (x : Reading). LacksAmong b (heading x.items) f) (sym is) w))
+        | inr w ↦ inr (lacking f (subst (λ (x : Reading). LacksAmong b (heading x.items) f) (sym is) w))
       ]
 
   pub fill_bad : (r : Refusal) → at ≤ length job → step job at ≡ bad r → opening empty (reading job 0) (length job) ≡ Err (refused at r)
@@ -100,5 +100,5 @@ lacks_memory b (i ∷ is) f (inl w) = here b i.place i.entry f w
     here b at (text t) f w = absurd w
 lacks_memory b (i ∷ is) f (inr (c, took, w)) = lacks_memory c is f w
 
-pub open_memory : (job : List ℕ) (f : Fault) → Starves job f → f.refusal ≡ Memory
+pub open_memory : (job : List ℕ) (f : Fault) → LacksMemory job f → f.refusal ≡ Memory
 open_memory job f w = lacks_memory empty (heading (reading job 0).items) f w.1

@@ -14,7 +14,8 @@
 -- book_in es      the book of these
 -- OpensSo         a job that is records in a row and not too long opens to the book of its records, exactly where that is within the
 --                 bounds and has a pattern
--- ReadsBack       a job that is records in a row, each of at most 65,535 bytes, reads as those records, with their places, up to its end
+-- ReadsBack       a job that is records in a row, each with a body of at most 65,535 bytes, reads as those records, with their places,
+--                 up to its end
 use Rattle.std.specs.Prelude.{◌≡◌, ℕ, ◌+◌, ◌/◌, ◌%◌, ◌<◌, ◌≤◌, ◌↔◌, List, [], ◌∷◌, ◌++◌, All, map, length, Some, None, Ok, Option, codes}
 use Rattle.rules.specs.declared.fault.Fault.{Fault}
 use Rattle.rules.specs.declared.primitives.MatchKind.{MatchKind}
