@@ -3,7 +3,7 @@
 -- accepted b n is        the texts of the records is that are accepted: those up to the first that is no text or is refused
 -- ended b n is s         the fault of the first record that is no text or whose text is refused; s where there is none
 -- lines_of b n ts        the hits of the texts ts, numbered from n on
--- CutShort b ts ls f     f is want of memory outside the job, and the lines ls are those of the first so many of the texts ts
+-- CutShort b ts ls f     f is want of memory, at the place 0, and the lines ls are the hits of the first so many of the texts ts
 -- Summed b ts s          the summary s is that of the texts ts: their number, and each pattern's hits in them
 -- Accounts job ls end    the account of a job: its lines, and the summary or the fault at its end
 use Rattle.std.specs.Prelude.{◌≡◌, ℕ, suc, ◌<◌, true, cond, ◌⊎◌, List, [], ◌∷◌, ◌++◌, map, length, take, is_ok, Some, None, Ok, Err, vec_items, codes, decimal, Option, Result, MatchResult, slice_index}
@@ -19,7 +19,7 @@ use Rattle.rules.specs.History.{Model, Counted, Keeps}
 use Rattle.rules.specs.Faults.{refused}
 use Rattle.job.specs.Format.{pattern, first, longest, text}
 use Rattle.job.specs.Records.{Item, Reading, reading}
-use Rattle.job.specs.Opening.{texts, opened, Starves}
+use Rattle.job.specs.Opening.{texts, opened, LacksMemory}
 use Rattle.account.specs.declared.account.Line.{Line}
 use Rattle.account.specs.declared.account.Summary.{Summary}
 
@@ -84,9 +84,9 @@ abbrev pub SumsOr : Result Book Fault → Reading → List Line → Result Summa
 SumsOr (Ok b) r ls end = Sums b r ls end
 SumsOr (Err f) r ls end = (end ≡ Err f) × (ls ≡ [])
 
--- nor has one whose book there was no memory to fill
+-- nor has one for whose book memory was wanting
 abbrev pub Accounts : List ℕ → List Line → Result Summary Fault → Type 0
-Accounts job ls end = SumsOr (opened job) (texts (reading job 0)) ls end ⊎ ((ls ≡ []) × MatchResult end (λ _. ⊥) (Starves job))
+Accounts job ls end = SumsOr (opened job) (texts (reading job 0)) ls end ⊎ ((ls ≡ []) × MatchResult end (λ _. ⊥) (LacksMemory job))
 
 -- the line of a hit as it is printed: its text, start, end and id in decimals
 abbrev pub shown_line : Line → List ℕ

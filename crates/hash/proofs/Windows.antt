@@ -63,3 +63,10 @@ rolling t m s some within =
     let next : window t m (s + 1) ≡ ys ++ new ∷ [] =
     ap (λ k. window t k (s + 1)) (let e : m ≡ n + 1 = omega arith in e) ∙ (closed t n (s + 1) (omega arith) ∙ ap (λ k. ys ++ get_or t k 0 ∷ []) (let e : s + 1 + n ≡ s + m = omega arith in e)) in
     ap (λ q. moved (hash_of q) (leading m) old new) first ∙ (ap (λ k. moved (hash_of (old ∷ ys)) (2 ^ k % 2 ^ 64) old new) (sym long) ∙ (rolled old new ys ∙ ap hash_of (sym next)))
+
+-- the same of windows as slices are
+pub rolls_slices : (t : List ℕ) (s m : ℕ) → 0 < m → s + m < length t → moved (hash_of (take (s + m - s) (drop s t))) (leading m) (get_or t s 0) (get_or t (s + m) 0) ≡ hash_of (take (s + 1 + m - (s + 1)) (drop (s + 1) t))
+rolls_slices t s m some within =
+    let here : s + m - s ≡ m = omega arith in
+    let there : s + 1 + m - (s + 1) ≡ m = omega arith in
+    ap (λ n. moved (hash_of (take n (drop s t))) (leading m) (get_or t s 0) (get_or t (s + m) 0)) here ∙ rolling t m s some within ∙ ap (λ n. hash_of (take n (drop (s + 1) t))) (sym there)

@@ -42,12 +42,17 @@ pub fn update_hash(prev: usize, hash_2pow: usize, old: u8, new: u8) -> usize
     )
 }
 
-/// Moving on from a window's hash gives the hash of the next window, for every text and every length, above 64 too. It
-/// answers `true`.
-#[tactic(auto, using(crate::proofs::Windows::rolling))]
-pub fn hash_rolls() -> bool
+/// Whether moving on from the hash of the `len` bytes at a place of a text gives the hash of those one byte further on; also
+/// where there are no such bytes. It answers `true`: for every text and every length, above 64 too, it does.
+#[tactic(auto, using(crate::proofs::Windows::rolling, crate::proofs::Windows::rolls_slices))]
+pub fn hash_rolls(text: &[u8], at: usize, len: usize) -> bool
     ensures rolls { Rolling }
     ensures value { result ≡ true }
 {
-    true
+    if len == 0 || text.len() <= len || text.len() - len <= at {
+        return true;
+    }
+    let window = &text[at..at + len];
+    let next = &text[at + 1..at + 1 + len];
+    update_hash(hash(window), hash_2pow(len), text[at], text[at + len]) == hash(next)
 }

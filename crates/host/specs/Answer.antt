@@ -6,16 +6,16 @@
 -- code d                  the number that the answer d has: 0 for a hit
 -- buffer_after d old      the bytes of the buffer then: those of the hit, else the old ones
 -- SmallAnswer d           the numbers of a hit are small, so that four bytes hold each
--- Replies j x d r old new   the number r, and a buffer that held old and then new, are those of the answer d; a call in order with a
---                           job j that is not too long may also meet want of memory, which has the number 103 and writes nothing
-use Rattle.std.specs.Prelude.{◌≡◌, ℕ, ◌≤◌, true, cond, ◌⊎◌, List, length, is_some, Some, None, Ok, Err, Option, Result, ◌==◌}
+-- Replies j x d r old new   the number r, and a buffer that held old and then new, are those of the answer d; a call that is in order
+--                           and wants memory may also meet want of it, which has the number 103 and writes nothing
+use Rattle.std.specs.Prelude.{◌≡◌, ℕ, true, cond, ◌⊎◌, List, is_some, Some, None, Ok, Err, Option, Result, ◌==◌}
 use Rattle.rules.specs.declared.primitives.Match.{Match}
 use Rattle.host.specs.declared.miss.Miss.{Miss}
 use Rattle.host.specs.declared.miss.Miss.TheVariants.{Miscalled}
 use Rattle.host.specs.declared.searcher.Searcher.{Searcher}
 use Rattle.host.specs.Searchers.{searcher_of}
 use Rattle.host.specs.Misses.{number_of}
-use Rattle.host.specs.Outcomes.{outcome, Small}
+use Rattle.host.specs.Outcomes.{outcome, WantsMemory, Small}
 use Rattle.host.specs.Written.{written}
 
 abbrev pub called : ℕ → ℕ → ℕ → Option Searcher
@@ -45,4 +45,4 @@ SmallAnswer (Ok m) = Small m
 SmallAnswer (Err n) = Unit {0}
 
 abbrev pub Replies : List ℕ → Option Searcher → Result Match ℕ → ℕ → List ℕ → List ℕ → Type 0
-Replies job x d r old new = ((r ≡ code d) × (new ≡ buffer_after d old)) ⊎ ((length job ≤ 65536) × (is_some x ≡ true) × (r ≡ 103) × (new ≡ old))
+Replies job x d r old new = ((r ≡ code d) × (new ≡ buffer_after d old)) ⊎ ((is_some x ≡ true) × WantsMemory job × (r ≡ 103) × (new ≡ old))

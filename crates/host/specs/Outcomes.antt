@@ -2,13 +2,16 @@
 -- text_in s              the text that a step reads
 -- text_of_first is       the text of the first record
 -- first_text job         the first text of a job
--- in_text b t place      what the search of a text comes to
--- in_book d x t place    the refusal of d, where closing the book answered d; else 5 where the searcher x misfits; else what the search
---                        comes to
+-- text_for b x t         the text t, if there is one, to be searched for the patterns of the book b; 5 goes first, where the searcher x
+--                        misfits
+-- hit_in b place t       what the search of a text comes to, or why there is none to be searched
+-- in_book d x t place    the refusal of d, where closing the book answered d; else what the search comes to
 -- outcome job place x    the hit in a job's first text, or else why there is none: the first refusal up to that text goes first
--- TurnedDown job d e     e is the reason that the defined answer d gives, or, for a job that is not too long, want of memory
+-- WantsMemory job        a call with a job wants memory: a pattern before its first text is to be entered, before which nothing is refused.
+--                        A searcher wants some, too, but a book that is searched has such a pattern
+-- TurnedDown job d e     e is the reason that the defined answer d gives, or want of memory, for a job that wants some
 -- Small m                the id, the start and the end of a match are those of a book and a text within the bounds
-use Rattle.std.specs.Prelude.{◌≡◌, ℕ, ◌<◌, ◌≤◌, cond, ◌⊎◌, List, [], ◌∷◌, length, Some, None, Ok, Err, Option, Result, ok_or}
+use Rattle.std.specs.Prelude.{◌≡◌, ℕ, ◌<◌, ◌≤◌, cond, ◌⊎◌, List, [], ◌∷◌, Some, None, Ok, Err, Option, Result, ok_or}
 use Rattle.rules.specs.declared.fault.Fault.{Fault}
 use Rattle.rules.specs.declared.fault.Refusal.TheVariants.{BadMaskCount, Memory}
 use Rattle.rules.specs.declared.primitives.Match.{Match}
@@ -16,7 +19,7 @@ use Rattle.rules.specs.Book.{Book}
 use Rattle.rules.specs.Search.{id_of, found}
 use Rattle.job.specs.Format.{Entry, pattern, first, longest, text, Step, over, bad, good}
 use Rattle.job.specs.Records.{Item, reading}
-use Rattle.job.specs.Opening.{texts, opened}
+use Rattle.job.specs.Opening.{texts, opened, LacksMemory}
 use Rattle.host.specs.declared.miss.Miss.{Miss}
 use Rattle.host.specs.declared.miss.Miss.TheVariants.{Refused, NoText, NoHit}
 use Rattle.host.specs.declared.searcher.Searcher.{Searcher}
@@ -40,20 +43,26 @@ text_of_first (i ∷ is) = text_of i.entry
 abbrev pub first_text : List ℕ → Option (List ℕ)
 first_text job = text_of_first (texts (reading job 0)).items
 
-abbrev pub in_text : Book → Option (List ℕ) → ℕ → Result Match Miss
-in_text b None place = Err NoText
-in_text b (Some t) place = ok_or (found b t place) NoHit
-
 -- the mask count is checked when the book is closed, after all else
+abbrev pub text_for : Book → Searcher → Option (List ℕ) → Result (List ℕ) Miss
+text_for b x t = cond (misfits x b) (Err (Refused BadMaskCount)) (ok_or t NoText)
+
+abbrev pub hit_in : Book → ℕ → Result (List ℕ) Miss → Result Match Miss
+hit_in b place (Ok t) = ok_or (found b t place) NoHit
+hit_in b place (Err e) = Err e
+
 abbrev pub in_book : Result Book Fault → Searcher → Option (List ℕ) → ℕ → Result Match Miss
-in_book (Ok b) x t place = cond (misfits x b) (Err (Refused BadMaskCount)) (in_text b t place)
+in_book (Ok b) x t place = hit_in b place (text_for b x t)
 in_book (Err f) x t place = Err (Refused f.refusal)
 
 abbrev pub outcome : List ℕ → ℕ → Searcher → Result Match Miss
 outcome job place x = in_book (opened job) x (first_text job) place
 
+abbrev pub WantsMemory : List ℕ → Type 0
+WantsMemory job = (f : Fault) × LacksMemory job f
+
 abbrev pub TurnedDown : List ℕ → Result Match Miss → Miss → Type 0
-TurnedDown job d e = (d ≡ Err e) ⊎ ((length job ≤ 65536) × (e ≡ Refused Memory))
+TurnedDown job d e = (d ≡ Err e) ⊎ (WantsMemory job × (e ≡ Refused Memory))
 
 abbrev pub Small : Match → Type 0
 Small m = (id_of m < 1024) × (m.start ≤ 65536) × (m.end ≤ 65536)

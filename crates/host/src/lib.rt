@@ -20,8 +20,9 @@ mod written;
 /// Searches a job's first text from a place on, with the searcher that has a number (0 plain, 1 rolling hash, 2 masks over
 /// one array half) and, for 2, a mask count. It answers 0 with the hit in `out`: id, start and end, four bytes each, low byte
 /// first. Otherwise it writes nothing and answers, in this order: 101 for another number or a buffer of another length than
-/// twelve, the number of the job's first refusal up to that text, 102 for no text, 100 for no hit; and 103 for want of memory.
-/// The parameters are those of the function that C calls.
+/// twelve, the number of the job's first refusal up to that text, 102 for no text, 100 for no hit; and 103 for want of memory,
+/// which comes only where a pattern before that text is to be entered and nothing is refused before it. The parameters are those
+/// of the function that C calls.
 pub fn find(
     heap: Global,
     job: &[u8],

@@ -1,12 +1,14 @@
 ghost use Rattle.std.specs.Prelude.{◌≡◌, Some, None, Ok, Err, IfOk, MatchOption, MatchResult};
 ghost use Rattle.job.specs.Format.{step};
-ghost use Rattle.host.specs.Outcomes.{text_in, outcome, TurnedDown, Small};
+ghost use Rattle.pattern.specs.Closed.{book_of};
+ghost use Rattle.host.specs.Outcomes.{text_in, text_for, outcome, TurnedDown, Small};
 
 use crate::miss::Miss;
 use crate::searcher::Searcher;
 use job::opening::open;
 use job::reader::Reader;
 use job::record::Record;
+use pattern::book::Book;
 use rules::fault::Refusal;
 use rules::primitives::Match;
 use std::alloc::Global;
@@ -22,6 +24,16 @@ fn first_text<'a>(mut texts: Reader<'a>) -> Option<&'a [u8]>
     }
 }
 
+/// The text to search, once the job's book is closed: up to the search itself no memory is wanted any more.
+fn text_for<'a>(book: &Book, texts: Reader<'a>, searcher: Searcher) -> Result<&'a [u8], Miss>
+    ensures { let d = text_for (book_of book.now) searcher (text_in (step texts.entry.job.now texts.entry.at)) in MatchResult result (λ t. d ≡ Ok t.now) (λ e. d ≡ Err e) }
+{
+    if searcher.misfits(book) {
+        return Err(Miss::Refused(Refusal::BadMaskCount));
+    }
+    first_text(texts).ok_or(Miss::NoText)
+}
+
 /// Searches a job's first text from a place on; what comes after it is not looked at.
 pub(crate) fn search(
     heap: Global,
@@ -33,10 +45,7 @@ pub(crate) fn search(
     ensures small { IfOk result Small }
 {
     let opened = open(heap, job)?;
-    if searcher.misfits(&opened.book) {
-        return Err(Miss::Refused(Refusal::BadMaskCount));
-    }
-    let text = first_text(opened.texts).ok_or(Miss::NoText)?;
+    let text = text_for(&opened.book, opened.texts, searcher)?;
     searcher
         .find(heap, opened.book, text, place)?
         .ok_or(Miss::NoHit)

@@ -1,21 +1,26 @@
--- The book to which a written job opens.
-use Rattle.std.proofs.Common.{◌≡◌, ℕ, suc, ◌+◌, ◌<◌, ◌≤◌, ◌↔◌, ltb, List, [], ◌∷◌, ◌++◌, length, get_or, Some, None, Ok, Err, Option, Result, sym, refl, ap, ◌∙◌, subst, append_assoc, append-nil, length-append, sum_by, arith}
+-- The book to which a written job opens, or its first fault.
+use Rattle.std.proofs.Common.{◌≡◌, ℕ, suc, ◌+◌, ◌<◌, ◌≤◌, ltb, true, false, ◌⊎◌, List, [], ◌∷◌, ◌++◌, length, get_or, Some, None, Ok, Err, Option, Result, sym, refl, ap, ◌∙◌, subst, inl, inr, append_assoc, append-nil, length-append, add-zero, zero-add, sum_by, arith}
 use Rattle.std.proofs.lemmas.Bool.{cond-false, le-ltb}
 use Rattle.std.proofs.lemmas.Bool.Decides.{nat_tests}
 use Rattle.std.proofs.lemmas.Grind.{common_steps}
 use Rattle.std.proofs.lemmas.List.{get_or-append-add}
+use Rattle.std.proofs.lemmas.List.Elements.{All-nil, All-cons, All-head, All-tail}
 use Rattle.std.proofs.lemmas.List.Sums.{sum_by-append, sum_by-cons}
 use Rattle.rules.specs.declared.fault.Fault.{Fault}
 use Rattle.rules.specs.declared.fault.Refusal.{Refusal}
+use Rattle.rules.specs.declared.fault.Refusal.TheVariants.{NoPatterns, JobTooLong}
+use Rattle.rules.specs.declared.primitives.MatchKind.{MatchKind}
 use Rattle.rules.specs.declared.primitives.MatchKind.TheVariants.{LeftmostFirst, LeftmostLongest}
 use Rattle.rules.specs.Book.{Book, count_of, total, Within}
 use Rattle.rules.specs.Entered.{enter}
+use Rattle.rules.specs.Faults.{refused}
 use Rattle.pattern.specs.Contents.{empty, of_kind}
 use Rattle.pattern.specs.Entering.{entering}
 use Rattle.job.specs.Format.{Entry, pattern, first, longest, text}
 use Rattle.job.specs.Records.{Item}
-use Rattle.job.specs.Opening.{heading, texts_from, entered_or, and_then, fill, closes, closed_at, opening, opened}
-use Rattle.job.specs.Written.{job_of, items_of, patterns_of, last_kind, book_in}
+use Rattle.job.specs.Opening.{is_text, heading, texts_from, entered_or, and_then, fill, closes, closed_at, opening, opened}
+use Rattle.job.specs.Written.{body, written, job_of, items_of, Stopped}
+use Rattle.job.specs.Opens.{patterns_of, last_kind, book_in, NoText, BeginWith, ClosedAt, at_text, at_end, FirstFault, pattern_refused, no_patterns, stopped, OpensAs}
 use Rattle.job.proofs.Written.{reads_back}
 
 -- the book b with the records es before the first text entered
@@ -55,76 +60,244 @@ within_fits b p es w =
       short = omega (arith, w.short, sum);
     }
 
-ok_same : (b c : Book) → ◌≡◌ {A = Result Book Fault} (Ok b) (Ok c) → c ≡ b
-ok_same b c h = cc
+within_none : (k : MatchKind) (ps : List (List ℕ)) → length ps ≡ 0 → Within (record { kind = k; patterns = ps })
+within_none k [] h = record { some = λ i l. absurd (omega (arith, l)); few = omega arith; short = omega arith }
+within_none k (p ∷ ps) h = absurd (omega (arith, h))
 
--- what is filled is what grows
-record Filled (b c : Book) (es : List Entry) : Type 0 where
-  grows : c ≡ grown b es
-  within : Within c
+none_behind : (e : Entry) (es : List Entry) → NoText (e ∷ es) → NoText es
+none_behind e es h = All-tail (λ y. is_text y ≡ false) e es h
 
-filled : (es : List Entry) (at : ℕ) (b c : Book) → Within b → fill b (heading (items_of at es)) ≡ Ok c → Filled b c es
-filled [] at b c w h = record { grows = ok_same b c h ∙ sym (grown_none b); within = subst Within (sym (ok_same b c h)) w }
-filled (pattern p ∷ es) at b c w h = go (entering b p) refl h (λ w' h'. filled es (at + 4 + length p) (enter b p) c w' h')
+no_text : (t : List ℕ) (es : List Entry) → NoText (text t ∷ es) → ⊥
+no_text t es h = let no : true ≡ false = All-head (λ y. is_text y ≡ false) (text t) es h in cc
+
+-- a record in front
+job_more : (e : Entry) (es : List Entry) → length (job_of (e ∷ es)) ≡ 4 + length (body e) + length (job_of es)
+job_more e es = let long : length (written e) ≡ 4 + length (body e) = grind (arith, length-append) in omega (arith, long, length-append (written e) (job_of es))
+
+begin_more : (e x : Entry) (es xs : List Entry) → is_text e ≡ false → BeginWith es xs x → BeginWith (e ∷ es) (e ∷ xs) x
+begin_more e x es xs other h = record { others = h.others; parts = ap (λ ys. e ∷ ys) h.parts; before = All-cons (λ y. is_text y ≡ false) e xs other h.before }
+
+begin_here : (e : Entry) (es : List Entry) → BeginWith (e ∷ es) [] e
+begin_here e es = record { others = es; parts = refl; before = All-nil (λ y. is_text y ≡ false) }
+
+-- f is the refusal of one of the patterns among the records es, of which the first stands at a place and those before it are entered
+-- into the book b
+record Refused (b : Book) (at : ℕ) (es : List Entry) (f : Fault) : Type 0 where
+  xs : List Entry
+  p : List ℕ
+  why : Refusal
+  begins : BeginWith es xs (pattern p)
+  within : Within (grown b xs)
+  refuses : entering (grown b xs) p ≡ Some why
+  fault : f ≡ refused (at + length (job_of xs)) why
+
+refused_more : (b c : Book) (at : ℕ) (e : Entry) (es : List Entry) (f : Fault) → is_text e ≡ false → ((xs : List Entry) → grown c xs ≡ grown b (e ∷ xs)) → Refused c (at + 4 + length (body e)) es f → Refused b at (e ∷ es) f
+refused_more b c at e es f other same r = record {
+  xs = e ∷ r.xs;
+  p = r.p;
+  why = r.why;
+  begins = begin_more e (pattern r.p) es r.xs other r.begins;
+  within = subst Within (same r.xs) r.within;
+  refuses = sym (ap (λ d. entering d r.p) (same r.xs)) ∙ r.refuses;
+  fault = r.fault ∙ ap (λ n. refused n r.why) (omega (arith, job_more e r.xs));
+}
+
+-- the records before the texts are entered, or one is refused
+abbrev Fills : Book → ℕ → List Entry → Type 0
+Fills b at es = ((fill b (heading (items_of at es)) ≡ Ok (grown b es)) × Within (grown b es)) ⊎ ((f : Fault) × (fill b (heading (items_of at es)) ≡ Err f) × Refused b at es f)
+
+-- filling a book from a pattern on, by whether it is refused
+abbrev after : Book → ℕ → List ℕ → List Entry → Option Refusal → Result Book Fault
+after b at p es o = and_then (entered_or b at p o) (λ d. fill d (heading (items_of (at + 4 + length p) es)))
+
+-- a record in front that is entered
+fills_more : (b c : Book) (at : ℕ) (e : Entry) (es : List Entry) → is_text e ≡ false → fill b (heading (items_of at (e ∷ es))) ≡ fill c (heading (items_of (at + 4 + length (body e)) es)) → ((xs : List Entry) → grown c xs ≡ grown b (e ∷ xs)) → Fills c (at + 4 + length (body e)) es → Fills b at (e ∷ es)
+fills_more b c at e es other takes same (inl h) = inl (takes ∙ h.0 ∙ ap Ok (same es), subst Within (same es) h.1)
+fills_more b c at e es other takes same (inr (f, h, r)) = inr (f, takes ∙ h, refused_more b c at e es f other same r)
+
+fills : (es : List Entry) (at : ℕ) (b : Book) → Within b → Fills b at es
+fills [] at b w = inl (ap Ok (sym (grown_none b)), subst Within (sym (grown_none b)) w)
+fills (pattern p ∷ es) at b w = go (entering b p) refl (λ w'. fills es (at + 4 + length p) (enter b p) w')
   where
-    go : (o : Option Refusal) → entering b p ≡ o → and_then (entered_or b at p o) (λ d. fill d (heading (items_of (at + 4 + length p) es))) ≡ Ok c → (Within (enter b p) → fill (enter b p) (heading (items_of (at + 4 + length p) es)) ≡ Ok c → Filled (enter b p) c es) → Filled b c (pattern p ∷ es)
-    go None e h' more = let m = more (within_more b p w (fits b p e)) h' in record { grows = m.grows ∙ grown_pattern b p es; within = m.within }
-    go (Some r) e h' more = cc
-filled (first ∷ es) at b c w h = let m = filled es (at + 4 + 0) (of_kind LeftmostFirst b) c (record { some = w.some; few = w.few; short = w.short }) h in record { grows = m.grows; within = m.within }
-filled (longest ∷ es) at b c w h = let m = filled es (at + 4 + 0) (of_kind LeftmostLongest b) c (record { some = w.some; few = w.few; short = w.short }) h in record { grows = m.grows; within = m.within }
-filled (text t ∷ es) at b c w h = record { grows = ok_same b c h ∙ sym (grown_none b); within = subst Within (sym (ok_same b c h)) w }
+    go : (o : Option Refusal) → entering b p ≡ o → (Within (enter b p) → Fills (enter b p) (at + 4 + length p) es) → Fills b at (pattern p ∷ es)
+    go None e more = fills_more b (enter b p) at (pattern p) es refl (ap (after b at p es) e) (grown_pattern b p) (more (within_more b p w (fits b p e)))
+    go (Some k) e more = inr (
+      refused at k,
+      ap (after b at p es) e,
+      record {
+        xs = [];
+        p = p;
+        why = k;
+        begins = begin_here (pattern p) es;
+        within = subst Within (sym (grown_none b)) w;
+        refuses = ap (λ d. entering d p) (grown_none b) ∙ e;
+        fault = ap (λ n. refused n k) (sym (add-zero at));
+      },
+    )
+fills (first ∷ es) at b w = fills_more b (of_kind LeftmostFirst b) at first es refl refl (λ xs. refl) (fills es (at + 4 + 0) (of_kind LeftmostFirst b) (record { some = w.some; few = w.few; short = w.short }))
+fills (longest ∷ es) at b w = fills_more b (of_kind LeftmostLongest b) at longest es refl refl (λ xs. refl) (fills es (at + 4 + 0) (of_kind LeftmostLongest b) (record { some = w.some; few = w.few; short = w.short }))
+fills (text t ∷ es) at b w = inl (ap Ok (sym (grown_none b)), subst Within (sym (grown_none b)) w)
 
-fills : (es : List Entry) (at : ℕ) (b : Book) → Within (grown b es) → fill b (heading (items_of at es)) ≡ Ok (grown b es)
-fills [] at b w = ap Ok (sym (grown_none b))
-fills (pattern p ∷ es) at b w =
-    ap (λ o. and_then (entered_or b at p o) (λ d. fill d (heading (items_of (at + 4 + length p) es)))) (fits_enters b p (within_fits b p es w))
-    ∙ fills es (at + 4 + length p) (enter b p) (subst Within (sym (grown_pattern b p es)) w)
+-- and the other way round: records within the bounds are entered
+entered : (es : List Entry) (at : ℕ) (b : Book) → Within (grown b es) → fill b (heading (items_of at es)) ≡ Ok (grown b es)
+entered [] at b w = ap Ok (sym (grown_none b))
+entered (pattern p ∷ es) at b w =
+    ap (after b at p es) (fits_enters b p (within_fits b p es w))
+    ∙ entered es (at + 4 + length p) (enter b p) (subst Within (sym (grown_pattern b p es)) w)
     ∙ ap Ok (grown_pattern b p es)
-fills (first ∷ es) at b w = fills es (at + 4 + 0) (of_kind LeftmostFirst b) w
-fills (longest ∷ es) at b w = fills es (at + 4 + 0) (of_kind LeftmostLongest b) w
-fills (text t ∷ es) at b w = ap Ok (sym (grown_none b))
+entered (first ∷ es) at b w = entered es (at + 4 + 0) (of_kind LeftmostFirst b) w
+entered (longest ∷ es) at b w = entered es (at + 4 + 0) (of_kind LeftmostLongest b) w
+entered (text t ∷ es) at b w = ap Ok (sym (grown_none b))
 
--- a book that closes has a pattern, and one that has a pattern closes
-closes_some : (c b : Book) (at : ℕ) → closes c at ≡ Ok b → (b ≡ c) × (0 < count_of c)
-closes_some c b at h = (grind (arith, nat_tests), grind (arith, nat_tests))
+-- and behind them a pattern is refused
+refuses : (xs : List Entry) (at : ℕ) (b : Book) (p : List ℕ) (k : Refusal) (others : List Entry) → NoText xs → Within (grown b xs) → entering (grown b xs) p ≡ Some k → fill b (heading (items_of at (xs ++ pattern p ∷ others))) ≡ Err (refused (at + length (job_of xs)) k)
+refuses [] at b p k others none w h =
+    ap (after b at p others) (sym (ap (λ d. entering d p) (grown_none b)) ∙ h)
+    ∙ ap (λ n. Err (refused n k)) (sym (add-zero at))
+refuses (pattern q ∷ xs) at b p k others none w h =
+    ap (after b at q (xs ++ pattern p ∷ others)) (fits_enters b q (within_fits b q xs w))
+    ∙ refuses xs (at + 4 + length q) (enter b q) p k others (none_behind (pattern q) xs none) (subst Within (sym (grown_pattern b q xs)) w) (ap (λ d. entering d p) (grown_pattern b q xs) ∙ h)
+    ∙ ap (λ n. Err (refused n k)) (omega (arith, job_more (pattern q) xs))
+refuses (first ∷ xs) at b p k others none w h = refuses xs (at + 4 + 0) (of_kind LeftmostFirst b) p k others (none_behind first xs none) w h ∙ ap (λ n. Err (refused n k)) (omega (arith, job_more first xs))
+refuses (longest ∷ xs) at b p k others none w h = refuses xs (at + 4 + 0) (of_kind LeftmostLongest b) p k others (none_behind longest xs none) w h ∙ ap (λ n. Err (refused n k)) (omega (arith, job_more longest xs))
+refuses (text t ∷ xs) at b p k others none w h = absurd (no_text t xs none)
 
-some_closes : (c : Book) (at : ℕ) → 0 < count_of c → closes c at ≡ Ok c
-some_closes c at h = grind (arith, nat_tests)
+-- the texts: there are none, or a first one
+data Texts (es : List Entry) : Type 0 where
+  no_texts : NoText es → Texts es
+  a_text : (xs : List Entry) (t : List ℕ) → BeginWith es xs (text t) → Texts es
 
-closed_some : (c b : Book) (is : List Item) (n : ℕ) → closed_at c is None n ≡ Ok b → (b ≡ c) × (0 < count_of c)
-closed_some c b [] n h = closes_some c b n h
-closed_some c b (i ∷ is) n h = closes_some c b i.place h
+texts_more : (e : Entry) (es : List Entry) → is_text e ≡ false → Texts es → Texts (e ∷ es)
+texts_more e es other (no_texts h) = no_texts (All-cons (λ y. is_text y ≡ false) e es other h)
+texts_more e es other (a_text xs t h) = a_text (e ∷ xs) t (begin_more e (text t) es xs other h)
 
-some_closed : (c : Book) (is : List Item) (n : ℕ) → 0 < count_of c → closed_at c is None n ≡ Ok c
-some_closed c [] n h = some_closes c n h
-some_closed c (i ∷ is) n h = some_closes c i.place h
+texts_in : (es : List Entry) → Texts es
+texts_in [] = no_texts (All-nil (λ y. is_text y ≡ false))
+texts_in (pattern p ∷ es) = texts_more (pattern p) es refl (texts_in es)
+texts_in (first ∷ es) = texts_more first es refl (texts_in es)
+texts_in (longest ∷ es) = texts_more longest es refl (texts_in es)
+texts_in (text t ∷ es) = a_text [] t (begin_here (text t) es)
 
-within_empty : Within empty
-within_empty = record { some = λ i l. absurd (omega (arith, l)); few = omega arith; short = omega arith }
+texts_none : (es : List Entry) (at : ℕ) → NoText es → texts_from (items_of at es) ≡ []
+texts_none [] at h = refl
+texts_none (pattern p ∷ es) at h = texts_none es (at + 4 + length p) (none_behind (pattern p) es h)
+texts_none (first ∷ es) at h = texts_none es (at + 4 + 0) (none_behind first es h)
+texts_none (longest ∷ es) at h = texts_none es (at + 4 + 0) (none_behind longest es h)
+texts_none (text t ∷ es) at h = absurd (no_text t es h)
 
-module _ (es : List Entry) (short : length (job_of es) ≤ 65536) where
+-- a book is closed at the first text
+closed_some : (c : Book) (xs : List Entry) (at : ℕ) (t : List ℕ) (others : List Entry) (s : Option Fault) (n : ℕ) → NoText xs → closed_at c (texts_from (items_of at (xs ++ text t ∷ others))) s n ≡ closes c (at + length (job_of xs))
+closed_some c [] at t others s n h = ap (closes c) (sym (add-zero at))
+closed_some c (pattern p ∷ xs) at t others s n h = closed_some c xs (at + 4 + length p) t others s n (none_behind (pattern p) xs h) ∙ ap (closes c) (omega (arith, job_more (pattern p) xs))
+closed_some c (first ∷ xs) at t others s n h = closed_some c xs (at + 4 + 0) t others s n (none_behind first xs h) ∙ ap (closes c) (omega (arith, job_more first xs))
+closed_some c (longest ∷ xs) at t others s n h = closed_some c xs (at + 4 + 0) t others s n (none_behind longest xs h) ∙ ap (closes c) (omega (arith, job_more longest xs))
+closed_some c (text u ∷ xs) at t others s n h = absurd (no_text u xs h)
+
+-- a book that closes has a pattern, and one that has none does not
+closes_ok : (c b : Book) (at : ℕ) → closes c at ≡ Ok b → (b ≡ c) × (0 < count_of c)
+closes_ok c b at h = (grind (arith, nat_tests), grind (arith, nat_tests))
+
+ok_closes : (c : Book) (at : ℕ) → 0 < count_of c → closes c at ≡ Ok c
+ok_closes c at h = grind (arith, nat_tests)
+
+closes_err : (c : Book) (f : Fault) (at : ℕ) → closes c at ≡ Err f → (count_of c ≡ 0) × (f ≡ refused at NoPatterns)
+closes_err c f at h = (grind (arith, nat_tests), grind (arith, nat_tests))
+
+err_closes : (c : Book) (at : ℕ) → count_of c ≡ 0 → closes c at ≡ Err (refused at NoPatterns)
+err_closes c at h = grind (arith, nat_tests)
+
+-- where the book of a job of n bytes is closed
+at_closing : (c : Book) (es : List Entry) (s : Option Fault) (n at : ℕ) → (s ≡ None → n ≡ length (job_of es)) → ClosedAt es s at → closed_at c (texts_from (items_of 0 es)) s n ≡ closes c at
+at_closing c es s n at long (at_text xs t h is) =
+    ap (λ ys. closed_at c (texts_from (items_of 0 ys)) s n) h.parts ∙ closed_some c xs 0 t h.others s n h.before ∙ ap (closes c) (omega (arith, is))
+at_closing c es s n at long (at_end h nothing is) =
+    ap (λ (is' : List Item). closed_at c is' s n) (texts_none es 0 h) ∙ ap (λ o. closed_at c [] o n) nothing ∙ ap (closes c) (long nothing ∙ sym is)
+
+-- and where it is not
+at_stop : (c : Book) (es : List Entry) (s : Option Fault) (n : ℕ) (f : Fault) → NoText es → s ≡ Some f → closed_at c (texts_from (items_of 0 es)) s n ≡ Err f
+at_stop c es s n f h is = ap (λ (is' : List Item). closed_at c is' s n) (texts_none es 0 h) ∙ ap (λ o. closed_at c [] o n) is
+
+data Closing (es : List Entry) (s : Option Fault) : Type 0 where
+  closing : (at : ℕ) → ClosedAt es s at → Closing es s
+  stopping : (f : Fault) → NoText es → s ≡ Some f → Closing es s
+
+closing_in : (es : List Entry) (s : Option Fault) → Closing es s
+closing_in es s = go (texts_in es) s
+  where
+    go : Texts es → (s : Option Fault) → Closing es s
+    go (a_text xs t h) s = closing (length (job_of xs)) (at_text xs t h refl)
+    go (no_texts h) None = closing (length (job_of es)) (at_end h refl refl)
+    go (no_texts h) (Some f) = stopping f h refl
+
+module _ (es : List Entry) (rest : List ℕ) (s : Option Fault) (stops : Stopped rest (length (job_of es)) s) (short : length (job_of es ++ rest) ≤ 65536) where
+  abbrev job : List ℕ
+  job = job_of es ++ rest
+
   abbrev behind : Book → Result Book Fault
-  behind c = closed_at c (texts_from (items_of 0 es)) None (length (job_of es))
+  behind c = closed_at c (texts_from (items_of 0 es)) s (length job)
 
-  opened_is : opened (job_of es) ≡ and_then (fill empty (heading (items_of 0 es))) behind
-  opened_is = cond-false (ltb 65536 (length (job_of es))) _ _ (le-ltb 65536 (length (job_of es)) short) ∙ ap (λ r. opening empty r (length (job_of es))) (reads_back es)
+  opened_is : opened job ≡ and_then (fill empty (heading (items_of 0 es))) behind
+  opened_is = cond-false (ltb 65536 (length job)) _ _ (le-ltb 65536 (length job) short) ∙ ap (λ r. opening empty r (length job)) (reads_back es rest s stops)
 
-  opens : (b : Book) → opened (job_of es) ≡ Ok b → (b ≡ book_in es) × Within b × (0 < count_of b)
-  opens b h = go (fill empty (heading (items_of 0 es))) refl (sym opened_is ∙ h)
+  whole : s ≡ None → length job ≡ length (job_of es)
+  whole h = go s h stops
     where
-      go : (x : Result Book Fault) → fill empty (heading (items_of 0 es)) ≡ x → and_then x behind ≡ Ok b → (b ≡ book_in es) × Within b × (0 < count_of b)
-      go (Ok c) e k =
-          let f = filled es 0 empty c within_empty e in
-          let s = closed_some c b (texts_from (items_of 0 es)) (length (job_of es)) k in
-          (s.0 ∙ f.grows, subst Within (sym s.0) f.within, subst (λ d. 0 < count_of d) (sym s.0) s.1)
-      go (Err f) e k = cc
+      go : (o : Option Fault) → o ≡ None → Stopped rest (length (job_of es)) o → length job ≡ length (job_of es)
+      go None h r = omega (arith, length-append (job_of es) rest, ap length r)
+      go (Some f) h r = cc
 
-  opens_back : (b : Book) → (b ≡ book_in es) × Within b × (0 < count_of b) → opened (job_of es) ≡ Ok b
-  opens_back b h =
-      opened_is
-      ∙ ap (λ x. and_then x behind) (fills es 0 empty (subst Within h.0 h.1))
-      ∙ some_closed (book_in es) (texts_from (items_of 0 es)) (length (job_of es)) (subst (λ d. 0 < count_of d) h.0 h.2)
-      ∙ ap Ok (sym h.0)
+  -- what comes of the book so far
+  comes : (x : Result Book Fault) → fill empty (heading (items_of 0 es)) ≡ x → opened job ≡ and_then x behind
+  comes x h = opened_is ∙ ap (λ y. and_then y behind) h
 
-pub opens_so : (es : List Entry) → length (job_of es) ≤ 65536 → (b : Book) → (opened (job_of es) ≡ Ok b) ↔ ((b ≡ book_in es) × Within b × (0 < count_of b))
-opens_so es short b = (opens es short b, opens_back es short b)
+  closed : (at : ℕ) → ClosedAt es s at → behind (book_in es) ≡ closes (book_in es) at
+  closed at c = at_closing (book_in es) es s (length job) at whole c
+
+  book : (b : Book) → opened job ≡ Ok b → (b ≡ book_in es) × Within b × (0 < count_of b) × ((at : ℕ) × ClosedAt es s at)
+  book b h = go (fills es 0 empty (within_none LeftmostFirst [] refl)) (closing_in es s)
+    where
+      go : Fills empty 0 es → Closing es s → (b ≡ book_in es) × Within b × (0 < count_of b) × ((at : ℕ) × ClosedAt es s at)
+      go (inl (x, w)) (closing at c) =
+          let e = closes_ok (book_in es) b at (sym (closed at c) ∙ sym (comes (Ok (book_in es)) x) ∙ h) in
+          (e.0, subst Within (sym e.0) w, subst (λ d. 0 < count_of d) (sym e.0) e.1, (at, c))
+      go (inl (x, w)) (stopping f n is) = let e = sym (at_stop (book_in es) es s (length job) f n is) ∙ sym (comes (Ok (book_in es)) x) ∙ h in cc
+      go (inr (f, x, r)) c = let e = sym (comes (Err f) x) ∙ h in cc
+
+  book_back : (b : Book) → (b ≡ book_in es) × Within b × (0 < count_of b) × ((at : ℕ) × ClosedAt es s at) → opened job ≡ Ok b
+  book_back b (same, w, some, (at, c)) =
+      comes (Ok (book_in es)) (entered es 0 empty (subst Within same w))
+      ∙ closed at c
+      ∙ ok_closes (book_in es) at (subst (λ d. 0 < count_of d) same some)
+      ∙ ap Ok (sym same)
+
+  fault : (f : Fault) → opened job ≡ Err f → FirstFault es s f
+  fault f h = go (fills es 0 empty (within_none LeftmostFirst [] refl)) (closing_in es s)
+    where
+      go : Fills empty 0 es → Closing es s → FirstFault es s f
+      go (inl (x, w)) (closing at c) = let e = closes_err (book_in es) f at (sym (closed at c) ∙ sym (comes (Ok (book_in es)) x) ∙ h) in no_patterns at c e.0 e.1
+      go (inl (x, w)) (stopping g n is) =
+          let e = sym (at_stop (book_in es) es s (length job) g n is) ∙ sym (comes (Ok (book_in es)) x) ∙ h in
+          let same : g ≡ f = cc in
+          stopped n w (is ∙ ap Some same)
+      go (inr (g, x, r)) c =
+          let e = sym (comes (Err g) x) ∙ h in
+          let same : f ≡ g = cc in
+          pattern_refused r.xs r.p r.why r.begins r.within r.refuses (same ∙ r.fault ∙ ap (λ n. refused n r.why) (zero-add (length (job_of r.xs))))
+
+  fault_back : (f : Fault) → FirstFault es s f → opened job ≡ Err f
+  fault_back f (pattern_refused xs p k b w ref is) =
+      comes (Err (refused (0 + length (job_of xs)) k)) (ap (λ ys. fill empty (heading (items_of 0 ys))) b.parts ∙ refuses xs 0 empty p k b.others b.before w ref)
+      ∙ ap (λ n. Err (refused n k)) (zero-add (length (job_of xs)))
+      ∙ ap Err (sym is)
+  fault_back f (no_patterns at c none is) =
+      comes (Ok (book_in es)) (entered es 0 empty (within_none _ _ none)) ∙ closed at c ∙ err_closes (book_in es) at none ∙ ap Err (sym is)
+  fault_back f (stopped n w is) = comes (Ok (book_in es)) (entered es 0 empty w) ∙ at_stop (book_in es) es s (length job) f n is
+
+pub opens_so : (es : List Entry) (rest : List ℕ) (s : Option Fault) → Stopped rest (length (job_of es)) s → length (job_of es ++ rest) ≤ 65536 → OpensAs (job_of es ++ rest) es s
+opens_so es rest s stops short = record {
+  book = λ b. (book es rest s stops short b, book_back es rest s stops short b);
+  fault = λ f. (fault es rest s stops short f, fault_back es rest s stops short f);
+}
+
+pub too_long : (job : List ℕ) → 65536 < length job → opened job ≡ Err (refused 0 JobTooLong)
+too_long job h = grind (arith, nat_tests)

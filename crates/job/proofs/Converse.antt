@@ -1,15 +1,15 @@
 -- Every run of bytes is the records that are read of it, as they are written, and what stands behind them.
-use Rattle.std.proofs.Common.{◌≡◌, ℕ, zero, suc, ◌+◌, ◌*◌, ◌/◌, ◌%◌, ◌<◌, ◌≤◌, List, [], ◌∷◌, ◌++◌, All, length, get_or, take, drop, Ok, Err, Result, sym, refl, ap, ◌∙◌, subst, append_assoc, add-zero, length-append, arith}
+use Rattle.std.proofs.Common.{◌≡◌, ℕ, zero, suc, ◌+◌, ◌*◌, ◌/◌, ◌%◌, ◌<◌, ◌≤◌, List, [], ◌∷◌, ◌++◌, All, length, get_or, drop, Ok, Err, Result, sym, refl, ap, ◌∙◌, subst, append_assoc, add-zero, length-append, arith}
 use Rattle.std.proofs.Math.ListN.{drop_of_length-le}
 use Rattle.std.proofs.lemmas.Nat.{mod-mul-add, div-mul-add}
-use Rattle.std.proofs.lemmas.List.{drop_more, get_or-drop, length-drop, length-take-le, take-append-drop, drop-drop}
+use Rattle.std.proofs.lemmas.List.{drop_more, length-drop, length-take-le, take-append-drop, drop-drop}
 use Rattle.std.proofs.lemmas.List.Elements.{All-nil, All-cons}
 use Rattle.std.proofs.lemmas.Bool.Decides.{nat_tests}
 use Rattle.rules.specs.declared.fault.Refusal.{Refusal}
 use Rattle.job.specs.Format.{Entry, pattern, first, longest, text, Step, over, bad, good, size_at, body_at, made_of, settled, step}
 use Rattle.job.specs.Records.{Reading, item, reading}
 use Rattle.job.specs.Written.{body, mark, written, job_of, items_of, entries_of, Stopped, WrittenAs}
-use Rattle.job.proofs.Steps.{step_next, step_end}
+use Rattle.job.proofs.Steps.{step_next, step_end, bad_alone}
 use Rattle.job.proofs.Readings.{reading_good, reading_bad, reading_over}
 
 -- what a record was made of
@@ -100,33 +100,6 @@ module _ (job : List ℕ) (bytes : All (λ x. x < 256) job) (at next : ℕ) (e :
       behind =
           sym (take-append-drop (size_at job at) (drop (at + 4) job))
           ∙ ap (λ xs. body_at job at ++ xs) (drop-drop (size_at job at) (at + 4) job ∙ ap (λ n. drop n job) (settled_next _ _ next e (good_next job at next e h)))
-
-settled_bad : (r : Result Entry Refusal) (n m : ℕ) (k : Refusal) → settled r n ≡ bad k → settled r m ≡ bad k
-settled_bad (Ok x) n m k h = cc
-settled_bad (Err x) n m k h = h
-
--- a record that is refused is refused on its own, too
-module _ (job : List ℕ) (at : ℕ) where
-  abbrev tail : List ℕ
-  tail = drop at job
-
-  byte : (k : ℕ) → get_or tail k 0 ≡ get_or job (at + k) 0
-  byte k = get_or-drop at job k 0
-
-  size_same : size_at tail 0 ≡ size_at job at
-  size_same = λ i. byte 2 i + 256 * byte 3 i
-
-  first_same : get_or tail 0 0 ≡ get_or job at 0
-  first_same = byte 0 ∙ ap (λ n. get_or job n 0) (add-zero at)
-
-  body_same : body_at tail 0 ≡ body_at job at
-  body_same = λ i. take (size_same i) (drop-drop 4 at job i)
-
-  made_same : made_of (get_or tail 0 0) (get_or tail (0 + 1) 0) (body_at tail 0) ≡ made_of (get_or job at 0) (get_or job (at + 1) 0) (body_at job at)
-  made_same = λ i. made_of (first_same i) (byte 1 i) (body_same i)
-
-  pub bad_alone : (r : Refusal) → step job at ≡ bad r → step tail 0 ≡ bad r
-  bad_alone r h = let long = length-drop at job in let size = size_same in let made = made_same in grind (arith, nat_tests, settled_bad)
 
 -- what is read of a job from a place on, and what stands behind that
 record From (job : List ℕ) (at : ℕ) (r : Reading) : Type 0 where

@@ -1,16 +1,19 @@
 -- The opening of a job, record by record.
-use Rattle.std.proofs.Common.{◌≡◌, ℕ, ◌≤◌, false, List, [], ◌∷◌, length, Some, None, Ok, Err, Option, Result, sym, refl, ap, ◌∙◌, subst, inl, inr, arith}
+use Rattle.std.proofs.Common.{◌≡◌, ℕ, ◌<◌, ◌≤◌, ltb, false, ◌⊎◌, List, [], ◌∷◌, length, Some, None, Ok, Err, Option, Result, sym, refl, ap, ◌∙◌, subst, inl, inr, arith}
+use Rattle.std.proofs.lemmas.Bool.{cond-false, le-ltb}
+use Rattle.std.proofs.lemmas.Bool.Decides.{nat_tests}
 use Rattle.std.specs.Option.{unwrap_or}
 use Rattle.rules.specs.declared.fault.Fault.{Fault}
 use Rattle.rules.specs.declared.fault.Refusal.{Refusal}
 use Rattle.rules.specs.declared.fault.Refusal.TheVariants.{Memory}
-use Rattle.rules.specs.Book.{Book}
-use Rattle.pattern.specs.Contents.{empty}
+use Rattle.rules.specs.declared.primitives.MatchKind.TheVariants.{LeftmostFirst, LeftmostLongest}
+use Rattle.rules.specs.Book.{Book, count_of}
+use Rattle.pattern.specs.Contents.{empty, of_kind}
 use Rattle.pattern.specs.Entering.{entering}
 use Rattle.rules.specs.Faults.{refused}
 use Rattle.job.specs.Format.{Entry, pattern, first, longest, text, over, bad, good, step}
 use Rattle.job.specs.Records.{Item, Reading, item, put, reading}
-use Rattle.job.specs.Opening.{is_text, heading, texts_from, texts, entered_or, takes, and_then, fill, closes, closed_at, opening, Lacks, LacksAmong, Starves, Refuses}
+use Rattle.job.specs.Opening.{is_text, heading, texts_from, texts, entered_or, takes, and_then, fill, closes, closed_at, opening, opened, Lacks, LacksAmong, LacksMemory, Refuses}
 use Rattle.job.proofs.Steps.{step_end}
 use Rattle.job.proofs.Readings.{reading_good, reading_bad, reading_over}
 
@@ -58,7 +61,7 @@ refuses_step b at e r n f other (inl d) = inl (opening_step b at e r n other ∙
 refuses_step b at e r n f other (inr w) = inr (lacks_here b at e r f w)
 
 -- The loop that fills the book of a job: b is the book so far, and at is the place of the next record.
-module _ (job : List ℕ) (b : Book) (at : ℕ) (so_far : opening empty (reading job 0) (length job) ≡ opening b (reading job at) (length job)) (left : texts (reading job 0) ≡ texts (reading job at)) (starved : (f : Fault) → LacksAmong b (heading (reading job at).items) f → LacksAmong empty (heading (reading job 0).items) f) where
+module _ (job : List ℕ) (b : Book) (at : ℕ) (so_far : opening empty (reading job 0) (length job) ≡ opening b (reading job at) (length job)) (left : texts (reading job 0) ≡ texts (reading job at)) (lacking : (f : Fault) → LacksAmong b (heading (reading job at).items) f → LacksAmong empty (heading (reading job 0).items) f) where
   pub fill_text : (t : List ℕ) (next : ℕ) → step job at ≡ good (text t) next → (opening empty (reading job 0) (length job) ≡ closes b at) × (reading job at ≡ texts (reading job 0))
   fill_text t next h =
       let is = reading_good job at next (text t) h in
@@ -69,7 +72,7 @@ module _ (job : List ℕ) (b : Book) (at : ℕ) (so_far : opening empty (reading
       let is = reading_good job at next e h in (
         so_far ∙ ap (λ r. opening b r (length job)) is ∙ opening_step b at e (reading job next) (length job) other ∙ ap (λ x. and_then x (λ d. opening d (reading job next) (length job))) took,
         left ∙ ap texts is ∙ texts_step at e (reading job next) other,
-        λ f w. starved f (subst (λ (r : Reading). LacksAmong b (heading r.items) f) (sym is) (lacks_behind b c at e (reading job next) f other took w)),
+        λ f w. lacking f (subst (λ (r : Reading). LacksAmong b (heading r.items) f) (sym is) (lacks_behind b c at e (reading job next) f other took w)),
       )
 
   pub fill_fault : (e : Entry) (next : ℕ) (f : Fault) → step job at ≡ good e next → is_text e ≡ false → Refuses (takes b at e) (Lacks b at e) f → Refuses (opening empty (reading job 0) (length job)) (LacksAmong empty (heading (reading job 0).items)) f
@@ -77,7 +80,7 @@ module _ (job : List ℕ) (b : Book) (at : ℕ) (so_far : opening empty (reading
       let is = reading_good job at next e h in
       elim (refuses_step b at e (reading job next) (length job) f other r) [
         | inl d ↦ inl (so_far ∙ ap (λ x. opening b x (length job)) is ∙ d)
-        | inr w ↦ inr (starved f (subst (λ (x : Reading). LacksAmong b (heading x.items) f) (sym is) w))
+        | inr w ↦ inr (lacking f (subst (λ (x : Reading). LacksAmong b (heading x.items) f) (sym is) w))
       ]
 
   pub fill_bad : (r : Refusal) → at ≤ length job → step job at ≡ bad r → opening empty (reading job 0) (length job) ≡ Err (refused at r)
@@ -100,5 +103,39 @@ lacks_memory b (i ∷ is) f (inl w) = here b i.place i.entry f w
     here b at (text t) f w = absurd w
 lacks_memory b (i ∷ is) f (inr (c, took, w)) = lacks_memory c is f w
 
-pub open_memory : (job : List ℕ) (f : Fault) → Starves job f → f.refusal ≡ Memory
+pub open_memory : (job : List ℕ) (f : Fault) → LacksMemory job f → f.refusal ≡ Memory
 open_memory job f w = lacks_memory empty (heading (reading job 0).items) f w.1
+
+-- a book that was empty and is not any more has taken a pattern, for which there might have been no memory
+fill_lacks : (is : List Item) (b c : Book) → fill b is ≡ Ok c → count_of b ≡ 0 → 0 < count_of c → (f : Fault) × LacksAmong b is f
+fill_lacks [] b c h none some = let same : b ≡ c = cc in absurd (omega (arith, ap count_of same))
+fill_lacks (i ∷ is) b c h none some = go i.place i.entry h (λ d took m. fill_lacks is d c took m some)
+  where
+    go : (at : ℕ) (e : Entry) → and_then (takes b at e) (λ d. fill d is) ≡ Ok c → ((d : Book) → fill d is ≡ Ok c → count_of d ≡ 0 → (f : Fault) × LacksAmong d is f) → (f : Fault) × (Lacks b at e f ⊎ ((d : Book) × (takes b at e ≡ Ok d) × LacksAmong d is f))
+    go at (pattern p) h more = by (entering b p) refl h
+      where
+        by : (o : Option Refusal) → entering b p ≡ o → and_then (entered_or b at p o) (λ d. fill d is) ≡ Ok c → (f : Fault) × (Lacks b at (pattern p) f ⊎ ((d : Book) × (takes b at (pattern p) ≡ Ok d) × LacksAmong d is f))
+        by None e h = (refused at Memory, inl (e, refl))
+        by (Some r) e h = cc
+    go at first h more = let d = of_kind LeftmostFirst b in let m = more d h none in (m.0, inr (d, refl, m.1))
+    go at longest h more = let d = of_kind LeftmostLongest b in let m = more d h none in (m.0, inr (d, refl, m.1))
+    go at (text t) h more = let m = more b h none in (m.0, inr (b, refl, m.1))
+
+-- a book that closes has a pattern
+closes_some : (c b : Book) (at : ℕ) → closes c at ≡ Ok b → 0 < count_of c
+closes_some c b at h = grind (arith, nat_tests)
+
+closed_some : (c b : Book) (is : List Item) (s : Option Fault) (n : ℕ) → closed_at c is s n ≡ Ok b → 0 < count_of c
+closed_some c b [] None n h = closes_some c b n h
+closed_some c b [] (Some f) n h = cc
+closed_some c b (i ∷ is) s n h = closes_some c b i.place h
+
+pub opened_lacks : (job : List ℕ) (b : Book) → opened job ≡ Ok b → (f : Fault) × LacksMemory job f
+opened_lacks job b h =
+    let r = reading job 0 in
+    let short : length job ≤ 65536 = grind (arith, nat_tests) in
+    go r short (fill empty (heading r.items)) refl (sym (cond-false (ltb 65536 (length job)) _ _ (le-ltb 65536 (length job) short)) ∙ h)
+  where
+    go : (r : Reading) → length job ≤ 65536 → (x : Result Book Fault) → fill empty (heading r.items) ≡ x → and_then x (λ c. closed_at c (texts_from r.items) r.stop (length job)) ≡ Ok b → (f : Fault) × ((length job ≤ 65536) × LacksAmong empty (heading r.items) f)
+    go r short (Ok c) e k = let m = fill_lacks (heading r.items) empty c e refl (closed_some c b (texts_from r.items) r.stop (length job) k) in (m.0, (short, m.1))
+    go r short (Err f) e k = cc

@@ -1,8 +1,9 @@
 -- What stands at a place of a job.
-use Rattle.std.proofs.Common.{◌≡◌, ℕ, ◌+◌, ◌<◌, ◌≤◌, List, length, get_or, Ok, Err, Result, arith}
+use Rattle.std.proofs.Common.{◌≡◌, ℕ, ◌+◌, ◌*◌, ◌<◌, ◌≤◌, List, length, get_or, take, drop, Ok, Err, Result, ap, ◌∙◌, add-zero, arith}
+use Rattle.std.proofs.lemmas.List.{get_or-drop, length-drop, drop-drop}
 use Rattle.std.proofs.lemmas.Bool.Decides.{nat_tests}
 use Rattle.rules.specs.declared.fault.Refusal.{Refusal}
-use Rattle.job.specs.Format.{Entry, over, good, size_at, body_at, made_of, settled, step}
+use Rattle.job.specs.Format.{Entry, over, bad, good, size_at, body_at, made_of, settled, step}
 
 -- a record whose bytes are all there
 pub step_whole : (job : List ℕ) (at : ℕ) → at + 4 + size_at job at ≤ length job → step job at ≡ settled (made_of (get_or job at 0) (get_or job (at + 1) 0) (body_at job at)) (at + 4 + size_at job at)
@@ -27,3 +28,34 @@ step_next job at next e h = (grind (arith, nat_tests, settled_good), grind (arit
 -- and nothing more is only past the end
 pub step_end : (job : List ℕ) (at : ℕ) → step job at ≡ over → length job ≤ at
 step_end job at h = grind (arith, nat_tests, settled_over)
+
+settled_bad : (r : Result Entry Refusal) (n m : ℕ) (k : Refusal) → settled r n ≡ bad k → settled r m ≡ bad k
+settled_bad (Ok x) n m k h = cc
+settled_bad (Err x) n m k h = h
+
+-- a record that is refused is refused on its own, too
+module _ (job : List ℕ) (at : ℕ) where
+  abbrev tail : List ℕ
+  tail = drop at job
+
+  byte : (k : ℕ) → get_or tail k 0 ≡ get_or job (at + k) 0
+  byte k = get_or-drop at job k 0
+
+  size_same : size_at tail 0 ≡ size_at job at
+  size_same = λ i. byte 2 i + 256 * byte 3 i
+
+  first_same : get_or tail 0 0 ≡ get_or job at 0
+  first_same = byte 0 ∙ ap (λ n. get_or job n 0) (add-zero at)
+
+  body_same : body_at tail 0 ≡ body_at job at
+  body_same = λ i. take (size_same i) (drop-drop 4 at job i)
+
+  made_same : made_of (get_or tail 0 0) (get_or tail (0 + 1) 0) (body_at tail 0) ≡ made_of (get_or job at 0) (get_or job (at + 1) 0) (body_at job at)
+  made_same = λ i. made_of (first_same i) (byte 1 i) (body_same i)
+
+  pub bad_alone : (r : Refusal) → step job at ≡ bad r → step tail 0 ≡ bad r
+  bad_alone r h = let long = length-drop at job in let size = size_same in let made = made_same in grind (arith, nat_tests, settled_bad)
+
+  -- and what is refused on its own is refused where it stands
+  pub bad_there : (r : Refusal) → at ≤ length job → step tail 0 ≡ bad r → step job at ≡ bad r
+  bad_there r le h = let long = length-drop at job in let size = size_same in let made = made_same in grind (arith, nat_tests, settled_bad)

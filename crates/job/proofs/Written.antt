@@ -1,12 +1,14 @@
 -- A job that is records in a row reads as those records.
-use Rattle.std.proofs.Common.{◌≡◌, ℕ, ◌+◌, ◌*◌, ◌/◌, ◌%◌, ◌<◌, List, [], ◌∷◌, ◌++◌, length, get_or, take, drop, None, Ok, sym, refl, ap, ◌∙◌, append_assoc, append-nil, add-zero, arith, length-append}
+use Rattle.std.proofs.Common.{◌≡◌, ℕ, ◌+◌, ◌*◌, ◌/◌, ◌%◌, ◌<◌, List, [], ◌∷◌, ◌++◌, length, get_or, take, drop, Some, None, Ok, Option, sym, refl, ap, ◌∙◌, subst, append_assoc, add-zero, zero-add, arith, length-append}
 use native.Mathlib.Nat.{mod-add-div}
 use Rattle.std.proofs.lemmas.List.{get_or-append-add, get_or_append_left, take_at, drop_at}
 use Rattle.job.specs.Format.{Entry, pattern, first, longest, text, good, size_at, body_at, made_of, settled, step}
-use Rattle.job.specs.Records.{item, put, reading}
-use Rattle.job.specs.Written.{body, mark, written, job_of, items_of}
-use Rattle.job.proofs.Steps.{step_whole}
-use Rattle.job.proofs.Readings.{reading_good, reading_over}
+use Rattle.rules.specs.declared.fault.Fault.{Fault}
+use Rattle.rules.specs.Faults.{refused}
+use Rattle.job.specs.Records.{item, ends, put, reading}
+use Rattle.job.specs.Written.{body, mark, written, job_of, items_of, Stopped}
+use Rattle.job.proofs.Steps.{step_whole, bad_there}
+use Rattle.job.proofs.Readings.{reading_good, reading_bad, reading_over}
 
 -- the head of a record in front of what follows it
 front : (e : Entry) (rest : List ℕ) → List ℕ
@@ -96,14 +98,26 @@ module _ (pre : List ℕ) (e : Entry) (rest : List ℕ) where
   unfolding whole
   step_here = ap (λ xs. step (pre ++ xs) at) (written_front e rest) ∙ step_written
 
--- the records es behind what stands before them
-from : (es : List Entry) (pre : List ℕ) → reading (pre ++ job_of es) (length pre) ≡ record { items = items_of (length pre) es; stop = None }
-from [] pre = reading_over (pre ++ []) (length pre) (omega (arith, ap length (append-nil pre)))
-from (e ∷ es) pre =
-    let next = length pre + 4 + length (body e) in
-    let more : reading (pre ++ (written e ++ job_of es)) next ≡ record { items = items_of next es; stop = None } =
-    (λ i. reading (sym (append_assoc pre (written e) (job_of es)) i) (sym (written_long pre e (job_of es)) i)) ∙ from es (pre ++ written e) ∙ ap (λ n. record { items = items_of n es; stop = None }) (written_long pre e (job_of es)) in
-    reading_good (pre ++ (written e ++ job_of es)) (length pre) next e (step_here pre e (job_of es)) ∙ ap (put (item (length pre) e)) more
+-- nothing more, or a record that is refused, behind what stands before it
+rests : (pre rest : List ℕ) (s : Option Fault) → Stopped rest (length pre) s → reading (pre ++ rest) (length pre) ≡ ends s
+rests pre rest None h = reading_over (pre ++ rest) (length pre) (omega (arith, length-append pre rest, ap length h))
+rests pre rest (Some f) h =
+    let tail : drop (length pre) (pre ++ rest) ≡ rest = drop_at pre rest (length pre) refl in
+    let there = bad_there (pre ++ rest) (length pre) f.refusal (omega (arith, length-append pre rest)) (ap (λ xs. step xs 0) tail ∙ h.0) in
+    reading_bad (pre ++ rest) (length pre) f.refusal (omega (arith, length-append pre rest)) there ∙ ap (λ n. ends (Some (refused n f.refusal))) (sym h.1)
 
-pub reads_back : (es : List Entry) → reading (job_of es) 0 ≡ record { items = items_of 0 es; stop = None }
-reads_back es = from es []
+-- the records es behind what stands before them, and what stands behind them
+from : (es : List Entry) (pre rest : List ℕ) (s : Option Fault) → Stopped rest (length pre + length (job_of es)) s → reading (pre ++ (job_of es ++ rest)) (length pre) ≡ record { items = items_of (length pre) es; stop = s }
+from [] pre rest s h = rests pre rest s (subst (λ n. Stopped rest n s) (add-zero (length pre)) h)
+from (e ∷ es) pre rest s h =
+    let behind = job_of es ++ rest in
+    let next = length pre + 4 + length (body e) in
+    let long = written_long pre e behind in
+    let parts : (written e ++ job_of es) ++ rest ≡ written e ++ behind = append_assoc (written e) (job_of es) rest in
+    let far : length pre + length (written e ++ job_of es) ≡ length (pre ++ written e) + length (job_of es) = omega (arith, length-append (written e) (job_of es), length-append pre (written e)) in
+    let more : reading (pre ++ (written e ++ behind)) next ≡ record { items = items_of next es; stop = s } =
+    (λ i. reading (sym (append_assoc pre (written e) behind) i) (sym long i)) ∙ from es (pre ++ written e) rest s (subst (λ n. Stopped rest n s) far h) ∙ ap (λ n. record { items = items_of n es; stop = s }) long in
+    ap (λ xs. reading (pre ++ xs) (length pre)) parts ∙ reading_good (pre ++ (written e ++ behind)) (length pre) next e (step_here pre e behind) ∙ ap (put (item (length pre) e)) more
+
+pub reads_back : (es : List Entry) (rest : List ℕ) (s : Option Fault) → Stopped rest (length (job_of es)) s → reading (job_of es ++ rest) 0 ≡ record { items = items_of 0 es; stop = s }
+reads_back es rest s h = from es [] rest s (subst (λ n. Stopped rest n s) (sym (zero-add (length (job_of es)))) h)

@@ -1,15 +1,16 @@
+-- is_text e        whether a record is a text
 -- heading is       the records before the first text
 -- texts_from is    those from the first text on
--- takes b at e     what the record e at a place before the texts does to the open book b
--- fill b is        the book after all of them, or the first refusal
 -- texts r          what is left to read from the first text on
--- closes b at      closing the book b at a place
--- opening b r n    the book after what is read, from the open book b on, of a job of n bytes
+-- takes b at e     the open book b after the record e at a place before the texts, or the refusal of that record
+-- fill b is        the open book b after all of the records is, or the first refusal
+-- closes b at      the open book b closed at a place, or the refusal there
+-- opening b r n    the book of a job of n bytes, of which b is the open book so far and r is what is left to read, or the first fault
 -- opened job       the book of a job, closed at the first text or else at the job's end, or the first fault up to there
--- Lacks b at e f        f is want of memory for the record e at a place, a pattern that the open book b takes
--- LacksAmong b is f     f is want of memory for one of the records is, all before which the open book b has taken
--- Starves job f         f is want of memory for one of the patterns before a job's first text
--- Refuses d w f         the fault f is the one of the defined answer d, or want of memory as w says
+-- Lacks b at e f      f is want of memory, at a place, for the record e there: a pattern that the open book b does not refuse
+-- LacksAmong b is f   f is want of memory for one of the records is, before which the open book b took all others
+-- LacksMemory job f   f is want of memory for a pattern before a job's first text, before which nothing is refused
+-- Refuses d w f       the fault f is the one of the defined answer d, or want of memory as w says
 use Rattle.std.specs.Prelude.{◌≡◌, ℕ, ◌≤◌, Bool, true, false, cond, ◌⊎◌, List, [], ◌∷◌, length, Some, None, Ok, Err, Option, Result, ◌==◌, nat_lt}
 use Rattle.rules.specs.declared.fault.Fault.{Fault}
 use Rattle.rules.specs.declared.fault.Refusal.{Refusal}
@@ -82,14 +83,14 @@ Lacks b at first f = ⊥
 Lacks b at longest f = ⊥
 Lacks b at (text t) f = ⊥
 
--- it is the first one, or the first one is taken and it is among the others
+-- it is for the first one, or the first one is taken and it is for one of the others
 abbrev pub LacksAmong : Book → List Item → Fault → Type 0
 LacksAmong b [] f = ⊥
 LacksAmong b (i ∷ is) f = Lacks b i.place i.entry f ⊎ ((c : Book) × (takes b i.place i.entry ≡ Ok c) × LacksAmong c is f)
 
 -- a job that is too long is refused before any memory is wanted
-abbrev pub Starves : List ℕ → Fault → Type 0
-Starves job f = (length job ≤ 65536) × LacksAmong empty (heading (reading job 0).items) f
+abbrev pub LacksMemory : List ℕ → Fault → Type 0
+LacksMemory job f = (length job ≤ 65536) × LacksAmong empty (heading (reading job 0).items) f
 
 abbrev pub Refuses : {X : Type 0} → Result X Fault → (Fault → Type 0) → Fault → Type 0
 Refuses d w f = (d ≡ Err f) ⊎ w f

@@ -7,22 +7,14 @@
 -- entries_of is   what the records is hold
 -- Stopped t at s  t stands behind records that were read up to the place at: nothing, or where reading met the fault s a first record
 --                 that is refused by just that
+-- ReadsBack       a job that is records in a row, each with a body of at most 65,535 bytes, and then nothing or a first record that is
+--                 refused, reads as those records, with their places, up to its end or that fault
 -- WrittenAs j r   the job j is what is read of it, r, as it is written, and what stands behind that
 -- ReadsAll        every run of bytes is the records that are read of it, as they are written, and what stands behind them
--- patterns_of es  the patterns before the first text, in their order
--- last_kind k es  the last kind before the first text; k where there is none
--- book_in es      the book of these
--- OpensSo         a job that is records in a row and not too long opens to the book of its records, exactly where that is within the
---                 bounds and has a pattern
--- ReadsBack       a job that is records in a row, each of at most 65,535 bytes, reads as those records, with their places, up to its end
-use Rattle.std.specs.Prelude.{◌≡◌, ℕ, ◌+◌, ◌/◌, ◌%◌, ◌<◌, ◌≤◌, ◌↔◌, List, [], ◌∷◌, ◌++◌, All, map, length, Some, None, Ok, Option, codes}
+use Rattle.std.specs.Prelude.{◌≡◌, ℕ, ◌+◌, ◌/◌, ◌%◌, ◌<◌, List, [], ◌∷◌, ◌++◌, All, map, length, Some, None, Option, codes}
 use Rattle.rules.specs.declared.fault.Fault.{Fault}
-use Rattle.rules.specs.declared.primitives.MatchKind.{MatchKind}
-use Rattle.rules.specs.declared.primitives.MatchKind.TheVariants.{LeftmostFirst, LeftmostLongest}
-use Rattle.rules.specs.Book.{Book, count_of, Within}
 use Rattle.job.specs.Format.{Entry, pattern, first, longest, text, bad, step}
 use Rattle.job.specs.Records.{Item, item, Reading, reading}
-use Rattle.job.specs.Opening.{opened}
 
 abbrev pub body : Entry → List ℕ
 body (pattern p) = p
@@ -47,15 +39,15 @@ abbrev pub items_of : ℕ → List Entry → List Item
 items_of at [] = []
 items_of at (e ∷ es) = item at e ∷ items_of (at + 4 + length (body e)) es
 
-abbrev pub ReadsBack : Type 0
-ReadsBack = (es : List Entry) → All (λ e. length (body e) < 65536) es → reading (job_of es) 0 ≡ record { items = items_of 0 es; stop = None }
-
 abbrev pub entries_of : List Item → List Entry
 entries_of is = map (λ i. i.entry) is
 
 abbrev pub Stopped : List ℕ → ℕ → Option Fault → Type 0
 Stopped rest at None = rest ≡ []
 Stopped rest at (Some f) = (step rest 0 ≡ bad f.refusal) × (f.place ≡ at)
+
+abbrev pub ReadsBack : Type 0
+ReadsBack = (es : List Entry) (rest : List ℕ) (s : Option Fault) → All (λ e. length (body e) < 65536) es → Stopped rest (length (job_of es)) s → reading (job_of es ++ rest) 0 ≡ record { items = items_of 0 es; stop = s }
 
 pub record WrittenAs (job : List ℕ) (r : Reading) : Type 0 where
   pub rest : List ℕ
@@ -66,23 +58,3 @@ pub record WrittenAs (job : List ℕ) (r : Reading) : Type 0 where
 
 abbrev pub ReadsAll : Type 0
 ReadsAll = (job : List ℕ) → All (λ x. x < 256) job → WrittenAs job (reading job 0)
-
-abbrev pub patterns_of : List Entry → List (List ℕ)
-patterns_of [] = []
-patterns_of (pattern p ∷ es) = p ∷ patterns_of es
-patterns_of (first ∷ es) = patterns_of es
-patterns_of (longest ∷ es) = patterns_of es
-patterns_of (text t ∷ es) = []
-
-abbrev pub last_kind : MatchKind → List Entry → MatchKind
-last_kind k [] = k
-last_kind k (pattern p ∷ es) = last_kind k es
-last_kind k (first ∷ es) = last_kind LeftmostFirst es
-last_kind k (longest ∷ es) = last_kind LeftmostLongest es
-last_kind k (text t ∷ es) = k
-
-abbrev pub book_in : List Entry → Book
-book_in es = record { kind = last_kind LeftmostFirst es; patterns = patterns_of es }
-
-abbrev pub OpensSo : Type 0
-OpensSo = (es : List Entry) → length (job_of es) ≤ 65536 → (b : Book) → (opened (job_of es) ≡ Ok b) ↔ ((b ≡ book_in es) × Within b × (0 < count_of b))

@@ -3,7 +3,7 @@ ghost use Rattle.pattern.specs.Closed.{book_of};
 ghost use Rattle.pattern.specs.Contents.{empty};
 ghost use Rattle.pattern.specs.Entering.{open_of};
 ghost use Rattle.job.specs.Records.{reading};
-ghost use Rattle.job.specs.Opening.{heading, texts, takes, closes, opening, opened, Lacks, LacksAmong, Starves, Refuses};
+ghost use Rattle.job.specs.Opening.{heading, texts, takes, closes, opening, opened, Lacks, LacksAmong, LacksMemory, Refuses};
 ghost use Rattle.job.specs.Reading.{entry};
 
 use crate::reader::Reader;
@@ -73,7 +73,7 @@ pub struct Opened<'a> {
 
 /// Reads a job up to its first text, and closes its book there, or else at the job's end.
 pub fn open<'a>(heap: Global, job: &'a [u8]) -> Result<Opened<'a>, Fault>
-    ensures { MatchResult result (λ o. (opened job.now ≡ Ok (book_of o.book)) × (o.texts.job.now ≡ job.now) × (reading job.now o.texts.at ≡ texts (reading job.now 0))) (Refuses (opened job.now) (Starves job.now)) }
+    ensures { MatchResult result (λ o. (opened job.now ≡ Ok (book_of o.book)) × (o.texts.job.now ≡ job.now) × (reading job.now o.texts.at ≡ texts (reading job.now 0))) (Refuses (opened job.now) (LacksMemory job.now)) }
 {
     if job.len() > MAX_JOB {
         return Err(Refusal::JobTooLong.at(0));
