@@ -1,5 +1,5 @@
-ghost use Rattle.std.specs.Prelude.{◌*◌, ◌≤◌};
-ghost use Rattle.intake.specs.Tallies.{tallies, sum};
+ghost use Rattle.std.specs.Prelude.{◌*◌, ◌≤◌, sum};
+ghost use Rattle.intake.specs.Tallies.{tallies};
 
 use crate::table::Table;
 use finder::finder::Finder;
