@@ -1,8 +1,8 @@
-ghost use Rattle.std.specs.Prelude.{◌≡◌};
+ghost use Rattle.std.specs.Prelude.{◌≡◌, OnOk};
 ghost use Rattle.rules.specs.Book.{shortest};
 ghost use Rattle.pattern.specs.Contents.{empty, of_kind};
 ghost use Rattle.pattern.specs.Closed.{book_of};
-ghost use Rattle.pattern.specs.Entering.{open_of, Enters, Checks};
+ghost use Rattle.pattern.specs.Entering.{open_of, Enters, Checks, Ready};
 
 use crate::book::Book;
 use crate::patterns::Patterns;
@@ -69,16 +69,18 @@ impl Patterns {
     }
 
     /// Whether the book may be closed and searched with `masks` masks: at the place 0, for callers without a job. After an `Ok`
-    /// neither refuses.
+    /// neither refuses, and the searcher has as many masks.
     pub fn check(&self, masks: usize) -> Result<(), Fault>
-        ensures { Checks (open_of self.now) 0 masks result }
+        ensures checks { Checks (open_of self.now) 0 masks result }
+        ensures ready { OnOk result (Ready (open_of self.now) masks) }
     {
         self.check_at(0, masks)
     }
 
     /// The same at a place in a job, which a fault names.
     pub fn check_at(&self, place: usize, masks: usize) -> Result<(), Fault>
-        ensures { Checks (open_of self.now) place masks result }
+        ensures checks { Checks (open_of self.now) place masks result }
+        ensures ready { OnOk result (Ready (open_of self.now) masks) }
     {
         if self.book.len() == 0 {
             return Err(Refusal::NoPatterns.at(place));

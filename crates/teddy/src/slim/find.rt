@@ -1,6 +1,7 @@
 ghost use Rattle.std.specs.Prelude.{◌≡◌, ◌+◌, ◌≤◌, length};
 ghost use Rattle.rules.specs.Search.{found};
 ghost use Rattle.pattern.specs.Closed.{book_of};
+ghost use Rattle.pattern.specs.Entering.{Ready};
 ghost use Rattle.rabinkarp.specs.Searched.{shared};
 ghost use Rattle.teddy.specs.Held.{nearest};
 ghost use Rattle.teddy.specs.Searched.{searched, mask_count};
@@ -18,11 +19,12 @@ use std::rc::Rc;
 use vector::vector::Vector;
 
 impl<V: Vector> Slim<V> {
-    /// A searcher over a closed book with `masks` masks; a count that is not permitted becomes the nearest one. One of a book
-    /// without patterns finds nothing.
+    /// A searcher over a closed book with `masks` masks; a count that is not permitted becomes the nearest one, and one that
+    /// `Patterns::check` permits stays. One of a book without patterns finds nothing.
     pub fn new(book: Rc<Book>, masks: usize) -> Slim<V>
         ensures book { ⟦<Slim<V> as Finder>⟧.book result ≡ book_of book.value }
         ensures masks { mask_count result ≡ nearest masks (book_of book.value) }
+        ensures ready { Ready (book_of book.value) masks → mask_count result ≡ masks }
     {
         Slim {
             teddy: Teddy::new(book, masks),

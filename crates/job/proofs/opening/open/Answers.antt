@@ -15,6 +15,6 @@ returns-in_err-check_at c =
     let b = open_of filled.patterns in
     let e = c.in_err-check_at.field-0.0 in
     let masks : c.min.result ≡ min (shortest b) 4 = c.min.ensures ∙ ap (λ n. min n 4) c.minimum_len.ensures in
-    let fault = subst (λ n. MatchOption (checking b n) ⊥ (λ x. e ≡ refused filled.at x)) masks c.in_err-check_at.ensures in
+    let fault = subst (λ n. MatchOption (checking b n) ⊥ (λ x. e ≡ refused filled.at x)) masks c.in_err-check_at.ensures.checks in
     rw (p.1, p.2)
     (inl (cond-false (ltb 65536 (length c.args.job.now)) _ _ (le-ltb 65536 (length c.args.job.now) c.if-job-gt-MAX_JOB.false) ∙ c.in_ok-filled.ensures.0 ∙ closing_fault b filled.at e (shortest_pos b filled.patterns.book.sound.within.some) fault))
