@@ -2,7 +2,7 @@
 use Rattle.std.proofs.Common.{◌≡◌, ℕ, ◌+◌, ◌<◌, ◌≤◌, List, length, Some, None, subst, inl, inr, arith}
 use Rattle.std.proofs.lemmas.Bool.{cases_lt}
 use Rattle.rules.specs.declared.primitives.Match.{Match}
-use Rattle.rules.specs.Book.{Book, Within}
+use Rattle.rules.specs.Book.{Book, Within, count_of}
 use Rattle.rules.specs.Search.{id_of, OccursAt, found}
 use Rattle.rules.specs.Places.{Chosen, AnswersAt}
 use Rattle.rules.proofs.Rule.{settled, found_unique}
@@ -28,3 +28,7 @@ passed_found b t at s m p here = found_unique b t at (Some m) (settled b t at s 
 -- where no place is left, there is no answer
 pub passed_all : (b : Book) (t : List ℕ) (at s : ℕ) → Within b → length t ≤ s → Passed b t at s → None ≡ found b t at
 passed_all b t at s w end p = found_unique b t at None (λ o h le. p.none (id_of o) o.start le (let some = w.some (id_of o) h.here.known in omega (arith, h.here.stands.0)) h.here)
+
+-- a book without patterns finds nothing
+pub found_empty : (b : Book) (t : List ℕ) (at : ℕ) → count_of b ≡ 0 → None ≡ found b t at
+found_empty b t at e = found_unique b t at None (λ o h le. omega (arith, e, h.here.known))

@@ -1,5 +1,6 @@
 ghost use Rattle.std.specs.Prelude.{◌≡◌};
 ghost use Rattle.std.specs.Rc.{rc_value};
+ghost use Rattle.rules.specs.Search.{found};
 ghost use Rattle.rules.specs.Places.{AnswersAt};
 ghost use Rattle.pattern.specs.Closed.{book_of};
 ghost use Rattle.finder.specs.Plain.{searched};
@@ -33,6 +34,19 @@ impl Plain {
     {
         Plain { book }
     }
+
+    /// Tries place after place.
+    fn find_at(&self, text: &[u8], at: usize) -> Option<Match>
+        ensures { result ≡ found (searched self.now) text.now at }
+    {
+        // A loop: `find_map` gets no proof here.
+        for start in at..text.len() {
+            if let Some(hit) = find_here(&self.book, text, start) {
+                return Some(hit);
+            }
+        }
+        None
+    }
 }
 
 impl Finder for Plain {
@@ -44,15 +58,9 @@ impl Finder for Plain {
         self.book.len()
     }
 
-    /// Tries place after place.
+    // `find_at` stands by itself, since it is proved by hand: an edit is to be refused at this line.
     fn find(&self, text: &[u8], at: usize) -> Option<Match> {
-        // A loop: `find_map` gets no proof here.
-        for start in at..text.len() {
-            if let Some(hit) = find_here(&self.book, text, start) {
-                return Some(hit);
-            }
-        }
-        None
+        self.find_at(text, at)
     }
 }
 

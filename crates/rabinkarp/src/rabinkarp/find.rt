@@ -1,5 +1,6 @@
 ghost use Rattle.std.specs.Prelude.{◌≡◌};
 ghost use Rattle.rules.specs.Book.{shortest};
+ghost use Rattle.rules.specs.Search.{found};
 ghost use Rattle.rules.specs.Places.{AnswersAt, Verified};
 ghost use Rattle.pattern.specs.Closed.{book_of};
 ghost use Rattle.hash.specs.Hash.{hash_of, window};
@@ -65,6 +66,22 @@ impl RabinKarp {
         }
         None
     }
+
+    /// Tries place after place.
+    fn find_at(&self, text: &[u8], at: usize) -> Option<Match>
+        ensures { result ≡ found (searched self.now) text.now at }
+    {
+        let len = self.hash_len;
+        let mut hash = hash(text.get(at..)?.get(..len)?);
+        // A loop by place: the hash moves on with it.
+        for start in at..text.len() - len {
+            if let Some(hit) = self.find_here(text, start, hash) {
+                return Some(hit);
+            }
+            hash = update_hash(hash, self.hash_2pow, text[start], text[start + len]);
+        }
+        self.find_here(text, text.len() - len, hash)
+    }
 }
 
 impl Finder for RabinKarp {
@@ -76,18 +93,9 @@ impl Finder for RabinKarp {
         self.book.len()
     }
 
-    /// Tries place after place.
+    // `find_at` stands by itself, since it is proved by hand: an edit is to be refused at this line.
     fn find(&self, text: &[u8], at: usize) -> Option<Match> {
-        let len = self.hash_len;
-        let mut hash = hash(text.get(at..)?.get(..len)?);
-        // A loop by place: the hash moves on with it.
-        for start in at..text.len() - len {
-            if let Some(hit) = self.find_here(text, start, hash) {
-                return Some(hit);
-            }
-            hash = update_hash(hash, self.hash_2pow, text[start], text[start + len]);
-        }
-        self.find_here(text, text.len() - len, hash)
+        self.find_at(text, at)
     }
 }
 

@@ -96,7 +96,10 @@ impl<V: Vector> Searcher for Slim<V> {
     /// The mask count; one that is not permitted becomes the nearest one.
     type Setting = usize;
 
-    fn over(closed: Rc<Book>, setting: usize) -> Slim<V> {
+    fn over(closed: Rc<Book>, setting: usize) -> Slim<V>
+        ensures book { ⟦<Slim<V> as Finder>⟧.book result ≡ book_of closed.value }
+        ensures masks { mask_count result ≡ nearest setting (book_of closed.value) }
+    {
         Slim::new(closed, setting)
     }
 }

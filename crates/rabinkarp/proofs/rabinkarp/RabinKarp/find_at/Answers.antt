@@ -9,7 +9,7 @@ use Rattle.finder.proofs.Places.{passed_more, passed_found}
 use Rattle.pattern.proofs.Shortest.{shortest_le, shortest_pos}
 use Rattle.rabinkarp.specs.declared.rabinkarp.RabinKarp.{RabinKarp}
 use Rattle.rabinkarp.specs.Searched.{searched}
-use Rattle.rabinkarp.proofs.rabinkarp.find.RabinKarpFinder.find.Goals as goal
+use Rattle.rabinkarp.proofs.rabinkarp.RabinKarp.find_at.Goals as goal
 
 -- an occurrence has its window in the text
 fits : (x : RabinKarp) (t : List ℕ) (i s : ℕ) → OccursAt (searched x) t i s → s + x.hash_len ≤ length t

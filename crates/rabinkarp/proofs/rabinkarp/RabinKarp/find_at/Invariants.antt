@@ -3,7 +3,7 @@ use Rattle.rules.specs.Book.{shortest}
 use Rattle.hash.specs.Hash.{hash_of, window}
 use Rattle.finder.proofs.Places.{Passed}
 use Rattle.rabinkarp.specs.Searched.{searched}
-use Rattle.rabinkarp.proofs.rabinkarp.find.RabinKarpFinder.find.Given as goal
+use Rattle.rabinkarp.proofs.rabinkarp.RabinKarp.find_at.Given as goal
 
 abbrev pub invariant-loop-start : goal.invariant-loop-start
 invariant-loop-start l = record {

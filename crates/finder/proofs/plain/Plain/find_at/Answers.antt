@@ -1,7 +1,7 @@
 use Rattle.std.proofs.Common.{rc_value, arith}
 use Rattle.finder.specs.Plain.{searched}
 use Rattle.finder.proofs.Places.{passed_more, passed_found, passed_all}
-use Rattle.finder.proofs.plain.find.PlainFinder.find.Goals as goal
+use Rattle.finder.proofs.plain.Plain.find_at.Goals as goal
 
 pub returns-in-Some : goal.returns-in-Some
 returns-in-Some c = passed_found (searched c.args.self.now) c.args.text.now c.args.at c.loop-start.start c.in-Some.hit c.loop-start.invariant (rw c.deref.ensures at c.in-Some.ensures)
