@@ -3,10 +3,12 @@
 -- accepted b n is        the texts of the records is that are accepted: those up to the first that is no text or is refused
 -- ended b n is s         the fault of the first record that is no text or whose text is refused; s where there is none
 -- lines_of b n ts        the hits of the texts ts, numbered from n on
--- CutShort b ts ls f     f is want of memory, at the place 0, and the lines ls are the hits of the first so many of the texts ts
+-- TextOrEnd is s         the first of the records is is a text; or there are none, and no fault s
+-- CutShort b r ls f      f is want of memory, at the place 0, behind the first so many texts of the reading r, which are accepted and
+--                        whose hits are ls; there a text comes next, or the end, since nothing else wants memory
 -- Summed b ts s          the summary s is that of the texts ts: their number, and each pattern's hits in them
 -- Accounts job ls end    the account of a job: its lines, and the summary or the fault at its end
-use Rattle.std.specs.Prelude.{◌≡◌, ℕ, suc, ◌<◌, true, cond, ◌⊎◌, List, [], ◌∷◌, ◌++◌, map, length, take, is_ok, Some, None, Ok, Err, vec_items, codes, decimal, Option, Result, MatchResult, slice_index}
+use Rattle.std.specs.Prelude.{◌≡◌, ℕ, suc, ◌<◌, ◌≤◌, true, cond, ◌⊎◌, List, [], ◌∷◌, ◌++◌, map, length, take, drop, is_ok, Some, None, Ok, Err, vec_items, codes, decimal, Option, Result, MatchResult, slice_index}
 use Rattle.rules.specs.declared.fault.Fault.{Fault}
 use Rattle.rules.specs.declared.fault.Refusal.{Refusal}
 use Rattle.rules.specs.declared.fault.Refusal.TheVariants.{AfterText, Memory}
@@ -19,7 +21,7 @@ use Rattle.rules.specs.History.{Model, Counted, Keeps}
 use Rattle.rules.specs.Faults.{refused}
 use Rattle.job.specs.Format.{pattern, first, longest, text}
 use Rattle.job.specs.Records.{Item, Reading, reading}
-use Rattle.job.specs.Opening.{texts, opened, LacksMemory}
+use Rattle.job.specs.Opening.{is_text, texts, opened, LacksMemory}
 use Rattle.account.specs.declared.account.Line.{Line}
 use Rattle.account.specs.declared.account.Summary.{Summary}
 
@@ -52,8 +54,17 @@ pub record Noted (m : Model) (ls : List Line) (at : ℕ) (t : List ℕ) (r : Res
   pub book : m'.book ≡ m.book
   pub cases : MatchResult r (λ _. (is_ok (scanned m.book m.accepted t) ≡ true) × Counted m t m' × (ls' ≡ ls ++ map (line m.accepted) (listing m.book t))) (λ f. (m' ≡ m) × (ls' ≡ ls) × (((k : Refusal) × (scanned m.book m.accepted t ≡ Err k) × (f ≡ refused at k)) ⊎ (f ≡ refused 0 Memory)))
 
-abbrev pub CutShort : Book → List (List ℕ) → List Line → Fault → Type 0
-CutShort b ts ls f = (f ≡ refused 0 Memory) × ((k : ℕ) × (ls ≡ lines_of b 0 (take k ts)))
+-- memory is wanted for the book that is shared, for the lines of a text before it is scanned, and for the tallies at the end
+abbrev pub TextOrEnd : List Item → Option Fault → Type 0
+TextOrEnd [] s = s ≡ None
+TextOrEnd (i ∷ is) s = is_text i.entry ≡ true
+
+pub record CutShort (b : Book) (r : Reading) (ls : List Line) (f : Fault) : Type 0 where
+  pub fault : f ≡ refused 0 Memory
+  pub many : ℕ
+  pub within : many ≤ length (accepted b 0 r.items)
+  pub next : TextOrEnd (drop many r.items) r.stop
+  pub lines : ls ≡ lines_of b 0 (take many (accepted b 0 r.items))
 
 -- the texts of a reading are scanned from the first on, over the book b, and ls are the lines. It answers an intake, or the fault
 -- that ended it, or want of memory
@@ -62,7 +73,7 @@ TextsServed b r ls (Ok m) =
     (ended b 0 r.items r.stop ≡ None)
     × Keeps (record { book = b; texts = accepted b 0 r.items }) m
     × (ls ≡ lines_of b 0 (accepted b 0 r.items))
-TextsServed b r ls (Err f) = ((ended b 0 r.items r.stop ≡ Some f) × (ls ≡ lines_of b 0 (accepted b 0 r.items))) ⊎ CutShort b (accepted b 0 r.items) ls f
+TextsServed b r ls (Err f) = ((ended b 0 r.items r.stop ≡ Some f) × (ls ≡ lines_of b 0 (accepted b 0 r.items))) ⊎ CutShort b r ls f
 
 -- the answer r, by what its intake holds
 abbrev pub modelled : {X : Type 0} → (X → Model) → Result X Fault → Result Model Fault
@@ -77,7 +88,7 @@ pub record Summed (b : Book) (ts : List (List ℕ)) (s : Summary) : Type 0 where
 -- over the book b: the hits of the accepted texts, and then their summary or the fault that ended it; or want of memory
 abbrev pub Sums : Book → Reading → List Line → Result Summary Fault → Type 0
 Sums b r ls (Ok s) = (ended b 0 r.items r.stop ≡ None) × (ls ≡ lines_of b 0 (accepted b 0 r.items)) × Summed b (accepted b 0 r.items) s
-Sums b r ls (Err f) = ((ended b 0 r.items r.stop ≡ Some f) × (ls ≡ lines_of b 0 (accepted b 0 r.items))) ⊎ CutShort b (accepted b 0 r.items) ls f
+Sums b r ls (Err f) = ((ended b 0 r.items r.stop ≡ Some f) × (ls ≡ lines_of b 0 (accepted b 0 r.items))) ⊎ CutShort b r ls f
 
 -- a job whose book is refused has no lines
 abbrev pub SumsOr : Result Book Fault → Reading → List Line → Result Summary Fault → Type 0

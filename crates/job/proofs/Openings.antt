@@ -130,12 +130,26 @@ closed_some c b [] None n h = closes_some c b n h
 closed_some c b [] (Some f) n h = cc
 closed_some c b (i ∷ is) s n h = closes_some c b i.place h
 
+-- what a job that opens comes from
+pub record Opens (job : List ℕ) (b : Book) : Type 0 where
+  pub short : length job ≤ 65536
+  pub book : Book
+  pub fills : fill empty (heading (reading job 0).items) ≡ Ok book
+  pub closes : closed_at book (texts_from (reading job 0).items) (reading job 0).stop (length job) ≡ Ok b
+
+pub opened_opens : (job : List ℕ) (b : Book) → opened job ≡ Ok b → Opens job b
+opened_opens job b h =
+    let r = reading job 0 in
+    let short : length job ≤ 65536 = grind (arith, nat_tests) in
+    go short (fill empty (heading r.items)) refl (sym (cond-false (ltb 65536 (length job)) _ _ (le-ltb 65536 (length job) short)) ∙ h)
+  where
+    go : length job ≤ 65536 → (x : Result Book Fault) → fill empty (heading (reading job 0).items) ≡ x → and_then x (λ c. closed_at c (texts_from (reading job 0).items) (reading job 0).stop (length job)) ≡ Ok b → Opens job b
+    go short (Ok c) e k = record { short = short; book = c; fills = e; closes = k }
+    go short (Err f) e k = cc
+
 pub opened_lacks : (job : List ℕ) (b : Book) → opened job ≡ Ok b → (f : Fault) × LacksMemory job f
 opened_lacks job b h =
     let r = reading job 0 in
-    let short : length job ≤ 65536 = grind (arith, nat_tests) in
-    go r short (fill empty (heading r.items)) refl (sym (cond-false (ltb 65536 (length job)) _ _ (le-ltb 65536 (length job) short)) ∙ h)
-  where
-    go : (r : Reading) → length job ≤ 65536 → (x : Result Book Fault) → fill empty (heading r.items) ≡ x → and_then x (λ c. closed_at c (texts_from r.items) r.stop (length job)) ≡ Ok b → (f : Fault) × ((length job ≤ 65536) × LacksAmong empty (heading r.items) f)
-    go r short (Ok c) e k = let m = fill_lacks (heading r.items) empty c e refl (closed_some c b (texts_from r.items) r.stop (length job) k) in (m.0, (short, m.1))
-    go r short (Err f) e k = cc
+    let o = opened_opens job b h in
+    let m = fill_lacks (heading r.items) empty o.book o.fills refl (closed_some o.book b (texts_from r.items) r.stop (length job) o.closes) in
+    (m.0, (o.short, m.1))

@@ -1,5 +1,4 @@
-use Rattle.std.proofs.Common.{◌≡◌, true, [], ◌∷◌, ◌++◌, map, length, take, is_ok, Some, Ok, Err, vec_items, refl, sym, ap, ◌∙◌, subst, inl, inr, zero-add, arith}
-use Rattle.std.proofs.lemmas.List.{take_at}
+use Rattle.std.proofs.Common.{◌≡◌, true, [], ◌∷◌, ◌++◌, map, length, is_ok, Some, Ok, Err, vec_items, sym, ap, ◌∙◌, subst, inl, inr, zero-add, arith}
 use Rattle.std.proofs.lemmas.Result.{err_from_is_err_and}
 use Rattle.rules.specs.declared.fault.Fault.{Fault}
 use Rattle.rules.specs.declared.fault.Refusal.TheVariants.{AfterText}
@@ -14,7 +13,7 @@ use Rattle.job.specs.Records.{reading}
 use Rattle.job.proofs.Steps.{step_next}
 use Rattle.job.proofs.Told.{told_some, told_none, told_bad, placed_some, no_text}
 use Rattle.account.specs.Accounts.{line, scanned, accepted, ended, lines_of, TextsServed}
-use Rattle.account.proofs.Texts.{lines_more, text_scanned, text_refused, other_refused, bad_refused, all_scanned}
+use Rattle.account.proofs.Texts.{lines_more, text_behind, cut_at_text, text_scanned, text_refused, other_refused, bad_refused, all_scanned}
 use Rattle.account.proofs.scans.scan_texts.Given as given
 use Rattle.account.proofs.scans.scan_texts.Goals as goal
 use Rattle.account.proofs.scans.scan_texts.Goals.{In-Some, In-Text, After-next}
@@ -78,13 +77,17 @@ loop-intake-preserved g c =
     let m = model g.F.Finder.book c.loop-intake.intake in
     let noted = c.in_ok-scan_text.ensures in
     let ok : is_ok (scanned b (length i.0) t) ≡ true = sym (λ k. is_ok (scanned (i.1.book k) (i.1.count k) t)) ∙ noted.cases.0 in
-    let e = text_scanned job b at i.0 _ _ i.3 i.4 t c.next.new.self.at (texted g (goal.at.loop-intake-preserved g c).In-Text) ok in (
+    let h = texted g (goal.at.loop-intake-preserved g c).In-Text in
+    let left = text_behind job at i.0 (reading job c.args.texts.at) t c.next.new.self.at h i.6 i.7 in
+    let e = text_scanned job b at i.0 _ _ i.3 i.4 t c.next.new.self.at h ok in (
       i.0 ++ t ∷ [],
       keeps_more (record { book = b; texts = i.0 }) m (model g.F.Finder.book c.scan_text.new.intake) t noted.cases.1 i.1,
       noted.cases.2 ∙ ap (λ xs. xs ++ map (line m.accepted) (listing m.book t)) i.2 ∙ (λ k. lines_of b 0 i.0 ++ map (line ((i.1.count ∙ sym (zero-add (length i.0))) k)) (listing (i.1.book k) t)) ∙ sym (lines_more b 0 i.0 t),
       e.0,
       e.1,
       c.next.ensures.job ∙ i.5,
+      left.0,
+      left.1,
     )
 
 pub returns-in_err-scan_text : goal.returns-in_err-scan_text
@@ -102,7 +105,7 @@ returns-in_err-scan_text g c =
     (subst (λ ls. TextsServed (g.F.Finder.book c.args.finder) first ls (Err f)) (sym noted.cases.1)
     (elim noted.cases.2 [
       | inr memory ↦ subst (λ x. TextsServed x first (vec_items c.loop-intake.lines) (Err f)) (book_is g (goal.at.returns-in_err-scan_text g c).After-next)
-          (inr (memory, (length i.0, i.2 ∙ ap (lines_of b 0) (sym (take_at i.0 _ (length i.0) refl) ∙ ap (take (length i.0)) i.3))))
+          (inr (cut_at_text job at i.0 first t c.next.new.self.at (texted g (goal.at.returns-in_err-scan_text g c).In-Text) i.6 i.7 b _ i.3 _ i.2 f memory))
       | inl (k, is, at_place) ↦
           let e = text_refused job b at i.0 _ _ i.3 i.4 t c.next.new.self.at k (texted g (goal.at.returns-in_err-scan_text g c).In-Text) ((λ j. scanned (sym i.1.book j) (sym i.1.count j) t) ∙ is) in
           ends_with g (goal.at.returns-in_err-scan_text g c).After-next f (e.0, e.1 ∙ ap Some ((λ j. refused (sym (there g (goal.at.returns-in_err-scan_text g c).In-Some) j) k) ∙ sym at_place))

@@ -1,4 +1,4 @@
-use Rattle.std.proofs.Common.{◌≡◌, ℕ, ◌-◌, List, ◌++◌, length, vec_items}
+use Rattle.std.proofs.Common.{◌≡◌, ℕ, ◌-◌, List, ◌++◌, length, drop, vec_items}
 use Rattle.rules.specs.History.{Keeps}
 use Rattle.intake.specs.Intakes.{model}
 use Rattle.job.specs.Records.{reading}
@@ -17,6 +17,8 @@ invariant-loop-intake g l =
     × (ts ++ accepted b (length ts) left.items ≡ accepted b 0 first.items)
     × (ended b (length ts) left.items left.stop ≡ ended b 0 first.items first.stop)
     × (l.texts.job.now ≡ job)
+    × (drop (length ts) first.items ≡ left.items)
+    × (first.stop ≡ left.stop)
 
 abbrev pub decreases-loop-intake : goal.decreases-loop-intake
 decreases-loop-intake g l = length l.texts.job.now - l.texts.at
