@@ -1,6 +1,6 @@
 #!/usr/bin/env bash
 # The program pnscan on a few of the stored jobs, the longest among them: what it prints, and whether it ends with status 1,
-# which it does exactly after a fault line. It is built by `rt try`, which proves nothing; `rt ci` proves it and runs it once,
+# which it does exactly after a fault line, and then with the fault as its error. It is built by `rt try`, which proves nothing; `rt ci` proves it and runs it once,
 # and the program `jobs` runs all stored jobs through the same library.
 set -eu
 
@@ -17,8 +17,8 @@ for job in "$tmp"/cases/*.job; do
     out=$root/crates/jobs/data/$name.out
     echo "== $name.job"
     cat "$out"
-    if grep -q '^fault ' "$out"; then
-        echo "Error: the job has a fault"
+    if fault=$(grep '^fault ' "$out"); then
+        echo "Error: $fault"
         status=1
     else
         status=0

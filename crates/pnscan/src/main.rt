@@ -4,7 +4,6 @@
 
 use account::report::report;
 use account::run::run;
-use anyhow::ensure;
 use job::opening::MAX_JOB;
 use std::io::Read;
 
@@ -18,6 +17,6 @@ fn main(rt: HostRuntime) -> anyhow::Result<()> {
     let account = run(heap, job.as_slice());
     let text = report(heap, &account)?;
     rt.print(text.as_str())?;
-    ensure!(account.end.is_ok(), "the job has a fault");
+    account.end?;
     Ok(())
 }

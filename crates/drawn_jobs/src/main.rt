@@ -1,0 +1,88 @@
+//! Runs many drawn jobs, and compares what is printed of each with what a plain model of the rules says. The first job for
+//! which they differ is printed in hex with both.
+
+#![tactic(auto)]
+
+use account::account::Account;
+use account::report::report;
+use account::run::run;
+use anyhow::ensure;
+use model::Expected;
+use random::Random;
+use std::alloc::Global;
+use totals::Totals;
+
+mod bounds;
+mod damage;
+mod drawing;
+mod model;
+mod random;
+mod record;
+mod totals;
+
+/// How many jobs are drawn, besides those at the bounds.
+const JOBS: usize = 2000;
+
+/// Prints a job in hex, what the model says of it, and what is printed of it instead.
+fn show(
+    rt: &(impl Print + AllocGlobal),
+    job: &[u8],
+    expected: &[u8],
+    printed: &[u8],
+) -> anyhow::Result<()> {
+    print!(rt; "job ")?;
+    for byte in job {
+        print!(rt; "{byte:02x}")?;
+    }
+    println!(rt; "")?;
+    println!(rt; "expected")?;
+    println!(rt; "{}", String::from_utf8_lossy(rt.alloc(), expected)?)?;
+    println!(rt; "printed")?;
+    println!(rt; "{}", String::from_utf8_lossy(rt.alloc(), printed)?)?;
+    Ok(())
+}
+
+/// Compares what is printed of an account with what the model says.
+fn compare(
+    rt: &(impl Print + AllocGlobal),
+    totals: &mut Totals,
+    job: &[u8],
+    expected: &Expected,
+    account: &Account,
+) -> anyhow::Result<()> {
+    let printed = report(rt.alloc(), account)?;
+    let printed = printed.as_str().as_bytes();
+    let same = printed == expected.printed.as_slice();
+    if !same {
+        if totals.disagreements == 0 {
+            show(rt, job, &expected.printed, printed)?;
+        }
+        totals.disagree();
+    }
+    Ok(())
+}
+
+/// Runs a job through the model and through what is to be tried.
+fn try_job(rt: &(impl Print + AllocGlobal), totals: &mut Totals, job: &[u8]) -> anyhow::Result<()> {
+    let heap = rt.alloc();
+    let expected = model::expect(heap, job)?;
+    totals.note(&expected);
+    compare(rt, totals, job, &expected, &run(heap, job))
+}
+
+fn main(rt: HostRuntime) -> anyhow::Result<()> {
+    let heap = rt.alloc();
+    let mut random = Random::new();
+    let mut totals = Totals::new();
+    for _ in 0..JOBS {
+        let job = drawing::job(heap, &mut random)?;
+        let job = damage::perhaps(heap, &mut random, job)?;
+        try_job(&rt, &mut totals, &job)?;
+    }
+    for job in &bounds::jobs(heap, &mut random)? {
+        try_job(&rt, &mut totals, job)?;
+    }
+    println!(rt; "{totals}")?;
+    ensure!(totals.disagreements == 0, "the model says otherwise");
+    Ok(())
+}
