@@ -13,7 +13,7 @@ use Rattle.pattern.specs.Entering.{entering}
 use Rattle.rules.specs.Faults.{refused}
 use Rattle.job.specs.Format.{Entry, pattern, first, longest, text, over, bad, good, step}
 use Rattle.job.specs.Records.{Item, Reading, item, put, reading}
-use Rattle.job.specs.Opening.{is_text, heading, texts_from, texts, entered_or, takes, and_then, fill, closes, closed_at, opening, opened, Lacks, LacksAmong, LacksMemory, Refuses}
+use Rattle.job.specs.Opening.{is_text, heading, texts_from, texts, texts_at, entered_or, takes, and_then, fill, closes, closed_at, opening, opened, Lacks, LacksAmong, LacksMemory, Refuses}
 use Rattle.job.proofs.Steps.{step_end}
 use Rattle.job.proofs.Readings.{reading_good, reading_bad, reading_over}
 
@@ -62,10 +62,10 @@ refuses_step b at e r n f other (inr w) = inr (lacks_here b at e r f w)
 
 -- The loop that fills the book of a job: b is the book so far, and at is the place of the next record.
 module _ (job : List ℕ) (b : Book) (at : ℕ) (so_far : opening empty (reading job 0) (length job) ≡ opening b (reading job at) (length job)) (left : texts (reading job 0) ≡ texts (reading job at)) (lacking : (f : Fault) → LacksAmong b (heading (reading job at).items) f → LacksAmong empty (heading (reading job 0).items) f) where
-  pub fill_text : (t : List ℕ) (next : ℕ) → step job at ≡ good (text t) next → (opening empty (reading job 0) (length job) ≡ closes b at) × (reading job at ≡ texts (reading job 0))
+  pub fill_text : (t : List ℕ) (next : ℕ) → step job at ≡ good (text t) next → (opening empty (reading job 0) (length job) ≡ closes b at) × (reading job at ≡ texts (reading job 0)) × (at ≡ texts_at (texts (reading job 0)).items (length job))
   fill_text t next h =
       let is = reading_good job at next (text t) h in
-      (so_far ∙ ap (λ r. opening b r (length job)) is, is ∙ sym (left ∙ ap texts is))
+      (so_far ∙ ap (λ r. opening b r (length job)) is, is ∙ sym (left ∙ ap texts is), sym (ap (λ (r : Reading). texts_at r.items (length job)) (left ∙ ap texts is)))
 
   pub fill_again : (c : Book) (e : Entry) (next : ℕ) → step job at ≡ good e next → is_text e ≡ false → takes b at e ≡ Ok c → (opening empty (reading job 0) (length job) ≡ opening c (reading job next) (length job)) × (texts (reading job 0) ≡ texts (reading job next)) × ((f : Fault) → LacksAmong c (heading (reading job next).items) f → LacksAmong empty (heading (reading job 0).items) f)
   fill_again c e next h other took =
@@ -86,10 +86,10 @@ module _ (job : List ℕ) (b : Book) (at : ℕ) (so_far : opening empty (reading
   pub fill_bad : (r : Refusal) → at ≤ length job → step job at ≡ bad r → opening empty (reading job 0) (length job) ≡ Err (refused at r)
   fill_bad r l h = so_far ∙ ap (λ x. opening b x (length job)) (reading_bad job at r l h)
 
-  pub fill_over : step job at ≡ over → (opening empty (reading job 0) (length job) ≡ closes b (length job)) × (reading job (length job) ≡ texts (reading job 0))
+  pub fill_over : step job at ≡ over → (opening empty (reading job 0) (length job) ≡ closes b (length job)) × (reading job (length job) ≡ texts (reading job 0)) × (length job ≡ texts_at (texts (reading job 0)).items (length job))
   fill_over h =
       let is = reading_over job at (step_end job at h) in
-      (so_far ∙ ap (λ r. opening b r (length job)) is, reading_over job (length job) (omega arith) ∙ sym (left ∙ ap texts is))
+      (so_far ∙ ap (λ r. opening b r (length job)) is, reading_over job (length job) (omega arith) ∙ sym (left ∙ ap texts is), sym (ap (λ (r : Reading). texts_at r.items (length job)) (left ∙ ap texts is)))
 
 -- what it lacks is memory
 pub lacks_memory : (b : Book) (is : List Item) (f : Fault) → LacksAmong b is f → f.refusal ≡ Memory

@@ -2,13 +2,14 @@
 -- heading is       the records before the first text
 -- texts_from is    those from the first text on
 -- texts r          what is left to read from the first text on
+-- texts_at is n    where the texts begin: the place of the first of the records is, which are those from there on, or n where there are none
 -- takes b at e     the open book b after the record e at a place before the texts, or the refusal of that record
 -- fill b is        the open book b after all of the records is, or the first refusal
 -- closes b at      the open book b closed at a place, or the refusal there
 -- opening b r n    the book of a job of n bytes, of which b is the open book so far and r is what is left to read, or the first fault
 -- opened job       the book of a job, closed at the first text or else at the job's end, or the first fault up to there
 -- Lacks b at e f      f is want of memory, at a place, for the record e there: a pattern that the open book b does not refuse
--- LacksAmong b is f   f is want of memory for one of the records is, before which the open book b took all others
+-- LacksAmong b is f   f is want of memory for one of the records is, all before it being taken into the open book b
 -- LacksMemory job f   f is want of memory for a pattern before a job's first text, before which nothing is refused
 -- Refuses d w f       the fault f is the one of the defined answer d, or want of memory as w says
 use Rattle.std.specs.Prelude.{◌≡◌, ℕ, ◌≤◌, Bool, true, false, cond, ◌⊎◌, List, [], ◌∷◌, length, Some, None, Ok, Err, Option, Result, ◌==◌, nat_lt}
@@ -40,6 +41,10 @@ texts_from (i ∷ is) = cond (is_text i.entry) (i ∷ is) (texts_from is)
 
 abbrev pub texts : Reading → Reading
 texts r = record { items = texts_from r.items; stop = r.stop }
+
+abbrev pub texts_at : List Item → ℕ → ℕ
+texts_at [] n = n
+texts_at (i ∷ is) n = i.place
 
 -- a pattern is entered unless it is refused
 abbrev pub entered_or : Book → ℕ → List ℕ → Option Refusal → Result Book Fault

@@ -3,7 +3,7 @@ ghost use Rattle.pattern.specs.Closed.{book_of};
 ghost use Rattle.pattern.specs.Contents.{empty};
 ghost use Rattle.pattern.specs.Entering.{open_of};
 ghost use Rattle.job.specs.Records.{reading};
-ghost use Rattle.job.specs.Opening.{heading, texts, takes, closes, opening, opened, Lacks, LacksAmong, LacksMemory, Refuses};
+ghost use Rattle.job.specs.Opening.{heading, texts, texts_at, takes, closes, opening, opened, Lacks, LacksAmong, LacksMemory, Refuses};
 ghost use Rattle.job.specs.Reading.{entry};
 
 use crate::reader::Reader;
@@ -44,7 +44,7 @@ fn take(patterns: &mut Patterns, place: usize, it: Record<'_>) -> Result<(), Fau
 
 /// Enters the records up to the first text.
 fn fill(heap: Global, job: &[u8]) -> Result<Filled, Fault>
-    ensures { MatchResult result (λ f. (opening empty (reading job.now 0) (length job.now) ≡ closes (open_of f.patterns) f.at) × (reading job.now f.at ≡ texts (reading job.now 0))) (Refuses (opening empty (reading job.now 0) (length job.now)) (LacksAmong empty (heading (reading job.now 0).items))) }
+    ensures { MatchResult result (λ f. (opening empty (reading job.now 0) (length job.now) ≡ closes (open_of f.patterns) f.at) × (reading job.now f.at ≡ texts (reading job.now 0)) × (f.at ≡ texts_at (texts (reading job.now 0)).items (length job.now))) (Refuses (opening empty (reading job.now 0) (length job.now)) (LacksAmong empty (heading (reading job.now 0).items))) }
 {
     let mut patterns = Patterns::new(heap);
     let mut reader = Reader::new(job);
@@ -64,16 +64,17 @@ fn fill(heap: Global, job: &[u8]) -> Result<Filled, Fault>
     })
 }
 
-/// A job whose book is closed, and a reader at its first text.
+/// A job whose book is closed, and a reader at its first text, or else at the job's end.
 #[derive(Drop)]
 pub struct Opened<'a> {
     pub book: Book,
     pub texts: Reader<'a>,
 }
 
-/// Reads a job up to its first text, and closes its book there, or else at the job's end.
+/// Reads a job up to its first text, and closes its book there, or else at the job's end. It answers the first fault up to there,
+/// or want of memory for a pattern that would have been entered.
 pub fn open<'a>(heap: Global, job: &'a [u8]) -> Result<Opened<'a>, Fault>
-    ensures { MatchResult result (λ o. (opened job.now ≡ Ok (book_of o.book)) × (o.texts.job.now ≡ job.now) × (reading job.now o.texts.at ≡ texts (reading job.now 0))) (Refuses (opened job.now) (LacksMemory job.now)) }
+    ensures { MatchResult result (λ o. (opened job.now ≡ Ok (book_of o.book)) × (o.texts.job.now ≡ job.now) × (reading job.now o.texts.at ≡ texts (reading job.now 0)) × (o.texts.at ≡ texts_at (texts (reading job.now 0)).items (length job.now))) (Refuses (opened job.now) (LacksMemory job.now)) }
 {
     if job.len() > MAX_JOB {
         return Err(Refusal::JobTooLong.at(0));

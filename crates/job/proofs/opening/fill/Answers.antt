@@ -6,7 +6,7 @@ use Rattle.rules.specs.Faults.{refused}
 use Rattle.job.specs.Format.{good, step}
 use Rattle.job.specs.Reading.{entry}
 use Rattle.job.specs.Records.{reading}
-use Rattle.job.specs.Opening.{texts, takes, closes, opening, Lacks, Refuses}
+use Rattle.job.specs.Opening.{texts, texts_at, takes, closes, opening, Lacks, Refuses}
 use Rattle.job.proofs.Steps.{step_next}
 use Rattle.job.proofs.Openings.{fill_text, fill_again, fill_fault, fill_bad, fill_over}
 use Rattle.job.proofs.Told.{told_some, told_none, told_bad, placed_some, no_text}
@@ -38,7 +38,7 @@ returns-in-Text c =
     let a = (goal.at.returns-in-Text c).In-Some in
     let b = open_of c.loop-patterns.patterns in
     let job = c.args.job.now in
-    subst (λ n. (opening empty (reading job 0) (length job) ≡ closes b n) × (reading job n ≡ texts (reading job 0))) (sym (there a))
+    subst (λ n. (opening empty (reading job 0) (length job) ≡ closes b n) × (reading job n ≡ texts (reading job 0)) × (n ≡ texts_at (texts (reading job 0)).items (length job))) (sym (there a))
     (fill_text job b at i.2 i.3 i.4 c.in-Text.field-0.now c.next.new.self.at (stepped a ∙ ap (λ r. good (entry r) c.next.new.self.at) c.in-Text.is))
 
 pub loop-patterns-smaller : goal.loop-patterns-smaller
