@@ -1,11 +1,11 @@
 -- line n m               a hit m of the text n
 -- scanned b n t          what a scan of the text t with room for 4,096 hits answers once n texts were accepted
--- accepted b n is        the texts of the records is that are accepted: those up to the first that is no text or is refused
+-- accepted b n is        the texts of the records is that are accepted once n texts were: those up to the first that is no text or is refused
 -- ended b n is s         the fault of the first record that is no text or whose text is refused; s where there is none
 -- lines_of b n ts        the hits of the texts ts, numbered from n on
 -- TextOrEnd is s         the first of the records is is a text; or there are none, and no fault s
--- CutShort b r ls f      f is want of memory, at the place 0, behind the first so many texts of the reading r, which are accepted and
---                        whose hits are ls; there a text comes next, or the end, since nothing else wants memory
+-- EndsForMemory b r ls f   f is want of memory, at the place 0, and ls are the hits of the first k accepted texts of the reading r, for some
+--                          k, numbered from 0; behind these a text comes next, or the end, since nothing else wants memory
 -- Summed b ts s          the summary s is that of the texts ts: their number, and each pattern's hits in them
 -- Accounts job ls end    the account of a job: its lines, and the summary or the fault at its end
 use Rattle.std.specs.Prelude.{◌≡◌, ℕ, suc, ◌<◌, ◌≤◌, true, cond, ◌⊎◌, List, [], ◌∷◌, ◌++◌, map, length, take, drop, is_ok, Some, None, Ok, Err, vec_items, codes, decimal, Option, Result, MatchResult, slice_index}
@@ -21,7 +21,7 @@ use Rattle.rules.specs.History.{Model, Counted, Keeps}
 use Rattle.rules.specs.Faults.{refused}
 use Rattle.job.specs.Format.{pattern, first, longest, text}
 use Rattle.job.specs.Records.{Item, Reading, reading}
-use Rattle.job.specs.Opening.{is_text, texts, opened, LacksMemory}
+use Rattle.job.specs.Opening.{is_text, texts, opened, MemoryFault}
 use Rattle.account.specs.declared.account.Line.{Line}
 use Rattle.account.specs.declared.account.Summary.{Summary}
 
@@ -59,7 +59,7 @@ abbrev pub TextOrEnd : List Item → Option Fault → Type 0
 TextOrEnd [] s = s ≡ None
 TextOrEnd (i ∷ is) s = is_text i.entry ≡ true
 
-pub record CutShort (b : Book) (r : Reading) (ls : List Line) (f : Fault) : Type 0 where
+pub record EndsForMemory (b : Book) (r : Reading) (ls : List Line) (f : Fault) : Type 0 where
   pub fault : f ≡ refused 0 Memory
   pub many : ℕ
   pub within : many ≤ length (accepted b 0 r.items)
@@ -73,7 +73,7 @@ TextsServed b r ls (Ok m) =
     (ended b 0 r.items r.stop ≡ None)
     × Keeps (record { book = b; texts = accepted b 0 r.items }) m
     × (ls ≡ lines_of b 0 (accepted b 0 r.items))
-TextsServed b r ls (Err f) = ((ended b 0 r.items r.stop ≡ Some f) × (ls ≡ lines_of b 0 (accepted b 0 r.items))) ⊎ CutShort b r ls f
+TextsServed b r ls (Err f) = ((ended b 0 r.items r.stop ≡ Some f) × (ls ≡ lines_of b 0 (accepted b 0 r.items))) ⊎ EndsForMemory b r ls f
 
 -- the answer r, by what its intake holds
 abbrev pub modelled : {X : Type 0} → (X → Model) → Result X Fault → Result Model Fault
@@ -88,16 +88,16 @@ pub record Summed (b : Book) (ts : List (List ℕ)) (s : Summary) : Type 0 where
 -- over the book b: the hits of the accepted texts, and then their summary or the fault that ended it; or want of memory
 abbrev pub Sums : Book → Reading → List Line → Result Summary Fault → Type 0
 Sums b r ls (Ok s) = (ended b 0 r.items r.stop ≡ None) × (ls ≡ lines_of b 0 (accepted b 0 r.items)) × Summed b (accepted b 0 r.items) s
-Sums b r ls (Err f) = ((ended b 0 r.items r.stop ≡ Some f) × (ls ≡ lines_of b 0 (accepted b 0 r.items))) ⊎ CutShort b r ls f
+Sums b r ls (Err f) = ((ended b 0 r.items r.stop ≡ Some f) × (ls ≡ lines_of b 0 (accepted b 0 r.items))) ⊎ EndsForMemory b r ls f
 
--- a job whose book is refused has no lines
+-- a job whose book is refused ends with that refusal, and has no lines
 abbrev pub SumsOr : Result Book Fault → Reading → List Line → Result Summary Fault → Type 0
 SumsOr (Ok b) r ls end = Sums b r ls end
 SumsOr (Err f) r ls end = (end ≡ Err f) × (ls ≡ [])
 
--- nor has one for whose book memory was wanting
+-- or it ends for want of memory for a pattern before the texts, and has no lines
 abbrev pub Accounts : List ℕ → List Line → Result Summary Fault → Type 0
-Accounts job ls end = SumsOr (opened job) (texts (reading job 0)) ls end ⊎ ((ls ≡ []) × MatchResult end (λ _. ⊥) (LacksMemory job))
+Accounts job ls end = SumsOr (opened job) (texts (reading job 0)) ls end ⊎ ((ls ≡ []) × MatchResult end (λ _. ⊥) (MemoryFault job))
 
 -- the line of a hit as it is printed: its text, start, end and id in decimals
 abbrev pub shown_line : Line → List ℕ

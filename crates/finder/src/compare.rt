@@ -27,8 +27,8 @@ pub fn verify(book: &Book, id: PatternID, text: &[u8], start: usize) -> Option<M
     ensures { Verified (book_of book.now) id text.now start result }
 {
     let pattern = book.get(id);
-    // An id that the book lacks has no bytes, and no bytes stand everywhere. It is looked for only where bytes stand, since at
-    // most places where a search compares none do.
+    // For an id that the book lacks the bytes are none, and an empty pattern stands at every place of the text: so the id is tested
+    // too, behind the bytes, which at most places do not stand.
     let occurs = stands(pattern, text, start) && id.as_usize() < book.len();
     occurs.then(|| Match {
         pattern: id,

@@ -4,7 +4,8 @@ ghost use Rattle.rules.specs.Search.{found};
 
 use rules::primitives::Match;
 
-/// A searcher, by the closed book that it was made of.
+/// A searcher, by the book that it searches: it owes that book, the number of its patterns and the find, and nothing of how it was
+/// made.
 pub trait Finder {
     ghost book: { Self → Book };
 

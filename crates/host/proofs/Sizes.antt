@@ -8,18 +8,18 @@ use Rattle.rules.specs.Search.{found}
 use Rattle.rules.proofs.Listings.{found_some}
 use Rattle.job.specs.Format.{step}
 use Rattle.job.specs.Opening.{opened}
-use Rattle.host.specs.declared.searcher.Searcher.{Searcher}
+use Rattle.host.specs.declared.searcher.SearcherKind.{SearcherKind}
 use Rattle.host.specs.Outcomes.{text_in, text_for, Small}
 
 text_short : (job : List ℕ) (at : ℕ) (t : List ℕ) → text_in (step job at) ≡ Some t → length t ≤ length job
 text_short job at t h = grind (arith, nat_tests, common_steps, length-take {A = ℕ}, length-drop {A = ℕ})
 
-text_read : (b : Book) (x : Searcher) (o : Option (List ℕ)) (t : List ℕ) → text_for b x o ≡ Ok t → o ≡ Some t
+text_read : (b : Book) (x : SearcherKind) (o : Option (List ℕ)) (t : List ℕ) → text_for b x o ≡ Ok t → o ≡ Some t
 text_read b x (Some u) t h = grind (arith, nat_tests)
 text_read b x None t h = grind (arith, nat_tests)
 
 -- a hit in the text for a searcher at which a reader stands, of a job whose book is b
-pub small_hit : (job held : List ℕ) (at place : ℕ) (b : Book) (x : Searcher) (t : List ℕ) (m : Match) → opened job ≡ Ok b → held ≡ job → count_of b ≤ 1024 → text_for b x (text_in (step held at)) ≡ Ok t → found b t place ≡ Some m → Small m
+pub small_hit : (job held : List ℕ) (at place : ℕ) (b : Book) (x : SearcherKind) (t : List ℕ) (m : Match) → opened job ≡ Ok b → held ≡ job → count_of b ≤ 1024 → text_for b x (text_in (step held at)) ≡ Ok t → found b t place ≡ Some m → Small m
 small_hit job held at place b x t m book same few read h =
     let o = (found_some b t place m h).0 in
     let short : length job ≤ 65536 = grind (arith, nat_tests, common_steps) in

@@ -13,7 +13,7 @@ use Rattle.job.specs.Format.{Entry, pattern, first, longest, text, bad, step}
 use Rattle.job.specs.Records.{Item, reading_from, reading}
 use Rattle.job.specs.Opening.{heading, texts_from, takes, and_then, fill, closed_at, opening, opened}
 use Rattle.host.specs.declared.miss.Miss.TheVariants.{Refused}
-use Rattle.host.specs.declared.searcher.Searcher.{Searcher}
+use Rattle.host.specs.declared.searcher.SearcherKind.{SearcherKind}
 use Rattle.host.specs.Outcomes.{first_text, in_book, outcome}
 use Rattle.host.specs.Answer.{by_number, answer}
 
@@ -66,11 +66,11 @@ pub never_memory : (job : List ℕ) (f : Fault) → opened job ≡ Err f → f.r
 never_memory job f h m = omega (arith, subst Opens h (opened_named job), ap number m)
 
 -- nor is the search of its text
-not_memory : (d : Result Book Fault) (x : Searcher) (t : Option (List ℕ)) (place : ℕ) → ((f : Fault) → d ≡ Err f → f.refusal ≡ Memory → ⊥) → in_book d x t place ≡ Err (Refused Memory) → ⊥
+not_memory : (d : Result Book Fault) (x : SearcherKind) (t : Option (List ℕ)) (place : ℕ) → ((f : Fault) → d ≡ Err f → f.refusal ≡ Memory → ⊥) → in_book d x t place ≡ Err (Refused Memory) → ⊥
 not_memory (Ok b) x t place never h = grind arith
 not_memory (Err f) x t place never h = never f refl (cc)
 
 -- so a host is answered a refusal's number
-pub refusal_number : (job : List ℕ) (place : ℕ) (x : Searcher) (r : Refusal) → outcome job place x ≡ Err (Refused r) → answer job place (Some x) ≡ Err (number r)
+pub refusal_number : (job : List ℕ) (place : ℕ) (x : SearcherKind) (r : Refusal) → outcome job place x ≡ Err (Refused r) → answer job place (Some x) ≡ Err (number r)
 refusal_number job place x Memory h = absurd (not_memory (opened job) x (first_text job) place (never_memory job) h)
 refusal_number job place x r h = ap by_number h

@@ -12,16 +12,16 @@ use Rattle.std.specs.Prelude.{◌≡◌, ℕ, true, cond, ◌⊎◌, List, is_so
 use Rattle.rules.specs.declared.primitives.Match.{Match}
 use Rattle.host.specs.declared.miss.Miss.{Miss}
 use Rattle.host.specs.declared.miss.Miss.TheVariants.{Miscalled}
-use Rattle.host.specs.declared.searcher.Searcher.{Searcher}
+use Rattle.host.specs.declared.searcher.SearcherKind.{SearcherKind}
 use Rattle.host.specs.Searchers.{searcher_of}
 use Rattle.host.specs.Misses.{number_of}
 use Rattle.host.specs.Outcomes.{outcome, WantsMemory, Small}
 use Rattle.host.specs.Written.{written}
 
-abbrev pub called : ℕ → ℕ → ℕ → Option Searcher
+abbrev pub called : ℕ → ℕ → ℕ → Option SearcherKind
 called s c n = cond (n == 12) (searcher_of s c) None
 
-abbrev pub call_hit : List ℕ → ℕ → Option Searcher → Result Match Miss
+abbrev pub call_hit : List ℕ → ℕ → Option SearcherKind → Result Match Miss
 call_hit job place None = Err Miscalled
 call_hit job place (Some x) = outcome job place x
 
@@ -29,7 +29,7 @@ abbrev pub by_number : Result Match Miss → Result Match ℕ
 by_number (Ok m) = Ok m
 by_number (Err e) = Err (number_of e)
 
-abbrev pub answer : List ℕ → ℕ → Option Searcher → Result Match ℕ
+abbrev pub answer : List ℕ → ℕ → Option SearcherKind → Result Match ℕ
 answer job place x = by_number (call_hit job place x)
 
 abbrev pub code : Result Match ℕ → ℕ
@@ -44,5 +44,5 @@ abbrev pub SmallAnswer : Result Match ℕ → Type 0
 SmallAnswer (Ok m) = Small m
 SmallAnswer (Err n) = Unit {0}
 
-abbrev pub Replies : List ℕ → Option Searcher → Result Match ℕ → ℕ → List ℕ → List ℕ → Type 0
+abbrev pub Replies : List ℕ → Option SearcherKind → Result Match ℕ → ℕ → List ℕ → List ℕ → Type 0
 Replies job x d r old new = ((r ≡ code d) × (new ≡ buffer_after d old)) ⊎ ((is_some x ≡ true) × WantsMemory job × (r ≡ 103) × (new ≡ old))

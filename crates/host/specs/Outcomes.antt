@@ -19,10 +19,10 @@ use Rattle.rules.specs.Book.{Book}
 use Rattle.rules.specs.Search.{id_of, found}
 use Rattle.job.specs.Format.{Entry, pattern, first, longest, text, Step, over, bad, good}
 use Rattle.job.specs.Records.{Item, reading}
-use Rattle.job.specs.Opening.{texts, opened, LacksMemory}
+use Rattle.job.specs.Opening.{texts, opened, MemoryFault}
 use Rattle.host.specs.declared.miss.Miss.{Miss}
 use Rattle.host.specs.declared.miss.Miss.TheVariants.{Refused, NoText, NoHit}
-use Rattle.host.specs.declared.searcher.Searcher.{Searcher}
+use Rattle.host.specs.declared.searcher.SearcherKind.{SearcherKind}
 use Rattle.host.specs.Searchers.{misfits}
 
 abbrev pub text_of : Entry → Option (List ℕ)
@@ -44,22 +44,22 @@ abbrev pub first_text : List ℕ → Option (List ℕ)
 first_text job = text_of_first (texts (reading job 0)).items
 
 -- the mask count is checked when the book is closed, after all else
-abbrev pub text_for : Book → Searcher → Option (List ℕ) → Result (List ℕ) Miss
+abbrev pub text_for : Book → SearcherKind → Option (List ℕ) → Result (List ℕ) Miss
 text_for b x t = cond (misfits x b) (Err (Refused BadMaskCount)) (ok_or t NoText)
 
 abbrev pub hit_in : Book → ℕ → Result (List ℕ) Miss → Result Match Miss
 hit_in b place (Ok t) = ok_or (found b t place) NoHit
 hit_in b place (Err e) = Err e
 
-abbrev pub in_book : Result Book Fault → Searcher → Option (List ℕ) → ℕ → Result Match Miss
+abbrev pub in_book : Result Book Fault → SearcherKind → Option (List ℕ) → ℕ → Result Match Miss
 in_book (Ok b) x t place = hit_in b place (text_for b x t)
 in_book (Err f) x t place = Err (Refused f.refusal)
 
-abbrev pub outcome : List ℕ → ℕ → Searcher → Result Match Miss
+abbrev pub outcome : List ℕ → ℕ → SearcherKind → Result Match Miss
 outcome job place x = in_book (opened job) x (first_text job) place
 
 abbrev pub WantsMemory : List ℕ → Type 0
-WantsMemory job = (f : Fault) × LacksMemory job f
+WantsMemory job = (f : Fault) × MemoryFault job f
 
 abbrev pub TurnedDown : List ℕ → Result Match Miss → Miss → Type 0
 TurnedDown job d e = (d ≡ Err e) ⊎ (WantsMemory job × (e ≡ Refused Memory))

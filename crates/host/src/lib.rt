@@ -8,7 +8,7 @@ ghost use Rattle.host.specs.Misses.{number_of};
 
 use crate::miss::Miss;
 use crate::search::search;
-use crate::searcher::Searcher;
+use crate::searcher::SearcherKind;
 use crate::written::written;
 use std::alloc::Global;
 
@@ -55,7 +55,7 @@ fn reply(
     if out.len() != 12 {
         return Err(Miss::Miscalled);
     }
-    let chosen = Searcher::new(searcher, masks).ok_or(Miss::Miscalled)?;
+    let chosen = SearcherKind::new(searcher, masks).ok_or(Miss::Miscalled)?;
     out.copy_from_slice(written(search(heap, job, place, chosen)?).as_flattened());
     Ok(())
 }

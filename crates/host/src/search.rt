@@ -4,7 +4,7 @@ ghost use Rattle.pattern.specs.Closed.{book_of};
 ghost use Rattle.host.specs.Outcomes.{text_in, text_for, outcome, TurnedDown, Small};
 
 use crate::miss::Miss;
-use crate::searcher::Searcher;
+use crate::searcher::SearcherKind;
 use job::opening::open;
 use job::reader::Reader;
 use job::record::Record;
@@ -25,7 +25,7 @@ fn first_text<'a>(mut texts: Reader<'a>) -> Option<&'a [u8]>
 }
 
 /// The text to search, once the job's book is closed: up to the search itself no memory is wanted any more.
-fn text_for<'a>(book: &Book, texts: Reader<'a>, searcher: Searcher) -> Result<&'a [u8], Miss>
+fn text_for<'a>(book: &Book, texts: Reader<'a>, searcher: SearcherKind) -> Result<&'a [u8], Miss>
     ensures { let d = text_for (book_of book.now) searcher (text_in (step texts.entry.job.now texts.entry.at)) in MatchResult result (λ t. d ≡ Ok t.now) (λ e. d ≡ Err e) }
 {
     if searcher.misfits(book) {
@@ -39,7 +39,7 @@ pub(crate) fn search(
     heap: Global,
     job: &[u8],
     place: usize,
-    searcher: Searcher,
+    searcher: SearcherKind,
 ) -> Result<Match, Miss>
     ensures outcome { MatchResult result (λ m. outcome job.now place searcher ≡ Ok m) (TurnedDown job.now (outcome job.now place searcher)) }
     ensures small { IfOk result Small }

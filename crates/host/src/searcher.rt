@@ -16,21 +16,21 @@ use vector::single::Single;
 
 /// A kind of searcher; one with masks has their count. The C interface has numbers for these three.
 #[derive(Clone, Copy)]
-pub(crate) enum Searcher {
+pub(crate) enum SearcherKind {
     Plain,
     RollingHash,
     Masks(usize),
 }
 
-impl Searcher {
+impl SearcherKind {
     /// The searcher with a number, if there is one.
-    pub(crate) fn new(number: u32, masks: usize) -> Option<Searcher>
+    pub(crate) fn new(number: u32, masks: usize) -> Option<SearcherKind>
         ensures { result ≡ searcher_of number masks }
     {
         match number {
-            0 => Some(Searcher::Plain),
-            1 => Some(Searcher::RollingHash),
-            2 => Some(Searcher::Masks(masks)),
+            0 => Some(SearcherKind::Plain),
+            1 => Some(SearcherKind::RollingHash),
+            2 => Some(SearcherKind::Masks(masks)),
             _ => None,
         }
     }
@@ -40,7 +40,7 @@ impl Searcher {
         ensures { result ≡ misfits self (book_of book.now) }
     {
         match self {
-            Searcher::Masks(count) => book.misfits(count),
+            SearcherKind::Masks(count) => book.misfits(count),
             _ => false,
         }
     }
@@ -58,9 +58,11 @@ impl Searcher {
         let shared = Rc::new(heap, book)?;
         // Three types of searchers, so a match: the C interface has these three.
         Ok(match self {
-            Searcher::Plain => Plain::new(shared).find(text, at),
-            Searcher::RollingHash => RabinKarp::new(shared).find(text, at),
-            Searcher::Masks(count) => Slim::<Single<ArrayHalf>>::new(shared, count).find(text, at),
+            SearcherKind::Plain => Plain::new(shared).find(text, at),
+            SearcherKind::RollingHash => RabinKarp::new(shared).find(text, at),
+            SearcherKind::Masks(count) => Slim::<Single<ArrayHalf>>::new(shared, count).find(
+                text, at,
+            ),
         })
     }
 }

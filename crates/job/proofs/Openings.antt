@@ -13,7 +13,7 @@ use Rattle.pattern.specs.Entering.{entering}
 use Rattle.rules.specs.Faults.{refused}
 use Rattle.job.specs.Format.{Entry, pattern, first, longest, text, over, bad, good, step}
 use Rattle.job.specs.Records.{Item, Reading, item, put, reading}
-use Rattle.job.specs.Opening.{is_text, heading, texts_from, texts, texts_at, entered_or, takes, and_then, fill, closes, closed_at, opening, opened, Lacks, LacksAmong, LacksMemory, Refuses}
+use Rattle.job.specs.Opening.{is_text, heading, texts_from, texts, texts_at, entered_or, takes, and_then, fill, closes, closed_at, opening, opened, MemoryFaultAt, MemoryFaultAmong, MemoryFault, Refuses}
 use Rattle.job.proofs.Steps.{step_end}
 use Rattle.job.proofs.Readings.{reading_good, reading_bad, reading_over}
 
@@ -35,52 +35,52 @@ texts_step at longest r other = refl
 texts_step at (text t) r other = cc
 
 -- a pattern that is not entered is refused, or there is no memory for it
-pub lacks_or : (b : Book) (at : ℕ) (p : List ℕ) (f : Fault) → f ≡ refused at (unwrap_or (entering b p) Memory) → Refuses (takes b at (pattern p)) (Lacks b at (pattern p)) f
+pub lacks_or : (b : Book) (at : ℕ) (p : List ℕ) (f : Fault) → f ≡ refused at (unwrap_or (entering b p) Memory) → Refuses (takes b at (pattern p)) (MemoryFaultAt b at (pattern p)) f
 lacks_or b at p f h = go (entering b p) refl h
   where
-    go : (o : Option Refusal) → entering b p ≡ o → f ≡ refused at (unwrap_or o Memory) → Refuses (takes b at (pattern p)) (Lacks b at (pattern p)) f
+    go : (o : Option Refusal) → entering b p ≡ o → f ≡ refused at (unwrap_or o Memory) → Refuses (takes b at (pattern p)) (MemoryFaultAt b at (pattern p)) f
     go None is h = inr (is, h)
     go (Some r) is h = inl (ap (entered_or b at p) is ∙ ap Err (sym h))
 
 -- want of memory for a record, and for one behind it
-pub lacks_here : (b : Book) (at : ℕ) (e : Entry) (r : Reading) (f : Fault) → Lacks b at e f → LacksAmong b (heading (put (item at e) r).items) f
+pub lacks_here : (b : Book) (at : ℕ) (e : Entry) (r : Reading) (f : Fault) → MemoryFaultAt b at e f → MemoryFaultAmong b (heading (put (item at e) r).items) f
 lacks_here b at (pattern p) r f h = inl h
 lacks_here b at first r f h = absurd h
 lacks_here b at longest r f h = absurd h
 lacks_here b at (text t) r f h = absurd h
 
-pub lacks_behind : (b c : Book) (at : ℕ) (e : Entry) (r : Reading) (f : Fault) → is_text e ≡ false → takes b at e ≡ Ok c → LacksAmong c (heading r.items) f → LacksAmong b (heading (put (item at e) r).items) f
+pub lacks_behind : (b c : Book) (at : ℕ) (e : Entry) (r : Reading) (f : Fault) → is_text e ≡ false → takes b at e ≡ Ok c → MemoryFaultAmong c (heading r.items) f → MemoryFaultAmong b (heading (put (item at e) r).items) f
 lacks_behind b c at (pattern p) r f other took h = inr (c, took, h)
 lacks_behind b c at first r f other took h = inr (c, took, h)
 lacks_behind b c at longest r f other took h = inr (c, took, h)
 lacks_behind b c at (text t) r f other took h = cc
 
 -- a fault of the record is the job's
-pub refuses_step : (b : Book) (at : ℕ) (e : Entry) (r : Reading) (n : ℕ) (f : Fault) → is_text e ≡ false → Refuses (takes b at e) (Lacks b at e) f → Refuses (opening b (put (item at e) r) n) (LacksAmong b (heading (put (item at e) r).items)) f
+pub refuses_step : (b : Book) (at : ℕ) (e : Entry) (r : Reading) (n : ℕ) (f : Fault) → is_text e ≡ false → Refuses (takes b at e) (MemoryFaultAt b at e) f → Refuses (opening b (put (item at e) r) n) (MemoryFaultAmong b (heading (put (item at e) r).items)) f
 refuses_step b at e r n f other (inl d) = inl (opening_step b at e r n other ∙ ap (λ x. and_then x (λ c. opening c r n)) d)
 refuses_step b at e r n f other (inr w) = inr (lacks_here b at e r f w)
 
 -- The loop that fills the book of a job: b is the book so far, and at is the place of the next record.
-module _ (job : List ℕ) (b : Book) (at : ℕ) (so_far : opening empty (reading job 0) (length job) ≡ opening b (reading job at) (length job)) (left : texts (reading job 0) ≡ texts (reading job at)) (lacking : (f : Fault) → LacksAmong b (heading (reading job at).items) f → LacksAmong empty (heading (reading job 0).items) f) where
+module _ (job : List ℕ) (b : Book) (at : ℕ) (so_far : opening empty (reading job 0) (length job) ≡ opening b (reading job at) (length job)) (left : texts (reading job 0) ≡ texts (reading job at)) (lacking : (f : Fault) → MemoryFaultAmong b (heading (reading job at).items) f → MemoryFaultAmong empty (heading (reading job 0).items) f) where
   pub fill_text : (t : List ℕ) (next : ℕ) → step job at ≡ good (text t) next → (opening empty (reading job 0) (length job) ≡ closes b at) × (reading job at ≡ texts (reading job 0)) × (at ≡ texts_at (texts (reading job 0)).items (length job))
   fill_text t next h =
       let is = reading_good job at next (text t) h in
       (so_far ∙ ap (λ r. opening b r (length job)) is, is ∙ sym (left ∙ ap texts is), sym (ap (λ (r : Reading). texts_at r.items (length job)) (left ∙ ap texts is)))
 
-  pub fill_again : (c : Book) (e : Entry) (next : ℕ) → step job at ≡ good e next → is_text e ≡ false → takes b at e ≡ Ok c → (opening empty (reading job 0) (length job) ≡ opening c (reading job next) (length job)) × (texts (reading job 0) ≡ texts (reading job next)) × ((f : Fault) → LacksAmong c (heading (reading job next).items) f → LacksAmong empty (heading (reading job 0).items) f)
+  pub fill_again : (c : Book) (e : Entry) (next : ℕ) → step job at ≡ good e next → is_text e ≡ false → takes b at e ≡ Ok c → (opening empty (reading job 0) (length job) ≡ opening c (reading job next) (length job)) × (texts (reading job 0) ≡ texts (reading job next)) × ((f : Fault) → MemoryFaultAmong c (heading (reading job next).items) f → MemoryFaultAmong empty (heading (reading job 0).items) f)
   fill_again c e next h other took =
       let is = reading_good job at next e h in (
         so_far ∙ ap (λ r. opening b r (length job)) is ∙ opening_step b at e (reading job next) (length job) other ∙ ap (λ x. and_then x (λ d. opening d (reading job next) (length job))) took,
         left ∙ ap texts is ∙ texts_step at e (reading job next) other,
-        λ f w. lacking f (subst (λ (r : Reading). LacksAmong b (heading r.items) f) (sym is) (lacks_behind b c at e (reading job next) f other took w)),
+        λ f w. lacking f (subst (λ (r : Reading). MemoryFaultAmong b (heading r.items) f) (sym is) (lacks_behind b c at e (reading job next) f other took w)),
       )
 
-  pub fill_fault : (e : Entry) (next : ℕ) (f : Fault) → step job at ≡ good e next → is_text e ≡ false → Refuses (takes b at e) (Lacks b at e) f → Refuses (opening empty (reading job 0) (length job)) (LacksAmong empty (heading (reading job 0).items)) f
+  pub fill_fault : (e : Entry) (next : ℕ) (f : Fault) → step job at ≡ good e next → is_text e ≡ false → Refuses (takes b at e) (MemoryFaultAt b at e) f → Refuses (opening empty (reading job 0) (length job)) (MemoryFaultAmong empty (heading (reading job 0).items)) f
   fill_fault e next f h other r =
       let is = reading_good job at next e h in
       elim (refuses_step b at e (reading job next) (length job) f other r) [
         | inl d ↦ inl (so_far ∙ ap (λ x. opening b x (length job)) is ∙ d)
-        | inr w ↦ inr (lacking f (subst (λ (x : Reading). LacksAmong b (heading x.items) f) (sym is) w))
+        | inr w ↦ inr (lacking f (subst (λ (x : Reading). MemoryFaultAmong b (heading x.items) f) (sym is) w))
       ]
 
   pub fill_bad : (r : Refusal) → at ≤ length job → step job at ≡ bad r → opening empty (reading job 0) (length job) ≡ Err (refused at r)
@@ -92,29 +92,29 @@ module _ (job : List ℕ) (b : Book) (at : ℕ) (so_far : opening empty (reading
       (so_far ∙ ap (λ r. opening b r (length job)) is, reading_over job (length job) (omega arith) ∙ sym (left ∙ ap texts is), sym (ap (λ (r : Reading). texts_at r.items (length job)) (left ∙ ap texts is)))
 
 -- what it lacks is memory
-pub lacks_memory : (b : Book) (is : List Item) (f : Fault) → LacksAmong b is f → f.refusal ≡ Memory
+pub lacks_memory : (b : Book) (is : List Item) (f : Fault) → MemoryFaultAmong b is f → f.refusal ≡ Memory
 lacks_memory b [] f w = absurd w
 lacks_memory b (i ∷ is) f (inl w) = here b i.place i.entry f w
   where
-    here : (b : Book) (at : ℕ) (e : Entry) (f : Fault) → Lacks b at e f → f.refusal ≡ Memory
+    here : (b : Book) (at : ℕ) (e : Entry) (f : Fault) → MemoryFaultAt b at e f → f.refusal ≡ Memory
     here b at (pattern p) f w = ap (λ (g : Fault). g.refusal) w.1
     here b at first f w = absurd w
     here b at longest f w = absurd w
     here b at (text t) f w = absurd w
 lacks_memory b (i ∷ is) f (inr (c, took, w)) = lacks_memory c is f w
 
-pub open_memory : (job : List ℕ) (f : Fault) → LacksMemory job f → f.refusal ≡ Memory
+pub open_memory : (job : List ℕ) (f : Fault) → MemoryFault job f → f.refusal ≡ Memory
 open_memory job f w = lacks_memory empty (heading (reading job 0).items) f w.1
 
 -- a book that was empty and is not any more has taken a pattern, for which there might have been no memory
-fill_lacks : (is : List Item) (b c : Book) → fill b is ≡ Ok c → count_of b ≡ 0 → 0 < count_of c → (f : Fault) × LacksAmong b is f
+fill_lacks : (is : List Item) (b c : Book) → fill b is ≡ Ok c → count_of b ≡ 0 → 0 < count_of c → (f : Fault) × MemoryFaultAmong b is f
 fill_lacks [] b c h none some = let same : b ≡ c = cc in absurd (omega (arith, ap count_of same))
 fill_lacks (i ∷ is) b c h none some = go i.place i.entry h (λ d took m. fill_lacks is d c took m some)
   where
-    go : (at : ℕ) (e : Entry) → and_then (takes b at e) (λ d. fill d is) ≡ Ok c → ((d : Book) → fill d is ≡ Ok c → count_of d ≡ 0 → (f : Fault) × LacksAmong d is f) → (f : Fault) × (Lacks b at e f ⊎ ((d : Book) × (takes b at e ≡ Ok d) × LacksAmong d is f))
+    go : (at : ℕ) (e : Entry) → and_then (takes b at e) (λ d. fill d is) ≡ Ok c → ((d : Book) → fill d is ≡ Ok c → count_of d ≡ 0 → (f : Fault) × MemoryFaultAmong d is f) → (f : Fault) × (MemoryFaultAt b at e f ⊎ ((d : Book) × (takes b at e ≡ Ok d) × MemoryFaultAmong d is f))
     go at (pattern p) h more = by (entering b p) refl h
       where
-        by : (o : Option Refusal) → entering b p ≡ o → and_then (entered_or b at p o) (λ d. fill d is) ≡ Ok c → (f : Fault) × (Lacks b at (pattern p) f ⊎ ((d : Book) × (takes b at (pattern p) ≡ Ok d) × LacksAmong d is f))
+        by : (o : Option Refusal) → entering b p ≡ o → and_then (entered_or b at p o) (λ d. fill d is) ≡ Ok c → (f : Fault) × (MemoryFaultAt b at (pattern p) f ⊎ ((d : Book) × (takes b at (pattern p) ≡ Ok d) × MemoryFaultAmong d is f))
         by None e h = (refused at Memory, inl (e, refl))
         by (Some r) e h = cc
     go at first h more = let d = of_kind LeftmostFirst b in let m = more d h none in (m.0, inr (d, refl, m.1))
@@ -147,7 +147,7 @@ opened_opens job b h =
     go short (Ok c) e k = record { short = short; book = c; fills = e; closes = k }
     go short (Err f) e k = cc
 
-pub opened_lacks : (job : List ℕ) (b : Book) → opened job ≡ Ok b → (f : Fault) × LacksMemory job f
+pub opened_lacks : (job : List ℕ) (b : Book) → opened job ≡ Ok b → (f : Fault) × MemoryFault job f
 opened_lacks job b h =
     let r = reading job 0 in
     let o = opened_opens job b h in

@@ -2,16 +2,16 @@
 -- heading is       the records before the first text
 -- texts_from is    those from the first text on
 -- texts r          what is left to read from the first text on
--- texts_at is n    where the texts begin: the place of the first of the records is, which are those from there on, or n where there are none
+-- texts_at is n    the place of the first of the records is; n where there are none
 -- takes b at e     the open book b after the record e at a place before the texts, or the refusal of that record
 -- fill b is        the open book b after all of the records is, or the first refusal
 -- closes b at      the open book b closed at a place, or the refusal there
 -- opening b r n    the book of a job of n bytes, of which b is the open book so far and r is what is left to read, or the first fault
 -- opened job       the book of a job, closed at the first text or else at the job's end, or the first fault up to there
--- Lacks b at e f      f is want of memory, at a place, for the record e there: a pattern that the open book b does not refuse
--- LacksAmong b is f   f is want of memory for one of the records is, all before it being taken into the open book b
--- LacksMemory job f   f is want of memory for a pattern before a job's first text, before which nothing is refused
--- Refuses d w f       the fault f is the one of the defined answer d, or want of memory as w says
+-- MemoryFaultAt b at e f   f is want of memory, at a place, for the record e there: a pattern that the open book b does not refuse
+-- MemoryFaultAmong b is f  f is want of memory for one of the records is, all before it being taken into the open book b
+-- MemoryFault job f        f is want of memory for a pattern before a job's first text, before which nothing is refused
+-- Refuses d w f            the fault f is the one of the defined answer d, or want of memory as w says
 use Rattle.std.specs.Prelude.{◌≡◌, ℕ, ◌≤◌, Bool, true, false, cond, ◌⊎◌, List, [], ◌∷◌, length, Some, None, Ok, Err, Option, Result, ◌==◌, nat_lt}
 use Rattle.rules.specs.declared.fault.Fault.{Fault}
 use Rattle.rules.specs.declared.fault.Refusal.{Refusal}
@@ -82,20 +82,20 @@ opening b r n = and_then (fill b (heading r.items)) (λ c. closed_at c (texts_fr
 abbrev pub opened : List ℕ → Result Book Fault
 opened job = cond (nat_lt 65536 (length job)) (Err (refused 0 JobTooLong)) (opening empty (reading job 0) (length job))
 
-abbrev pub Lacks : Book → ℕ → Entry → Fault → Type 0
-Lacks b at (pattern p) f = (entering b p ≡ None) × (f ≡ refused at Memory)
-Lacks b at first f = ⊥
-Lacks b at longest f = ⊥
-Lacks b at (text t) f = ⊥
+abbrev pub MemoryFaultAt : Book → ℕ → Entry → Fault → Type 0
+MemoryFaultAt b at (pattern p) f = (entering b p ≡ None) × (f ≡ refused at Memory)
+MemoryFaultAt b at first f = ⊥
+MemoryFaultAt b at longest f = ⊥
+MemoryFaultAt b at (text t) f = ⊥
 
 -- it is for the first one, or the first one is taken and it is for one of the others
-abbrev pub LacksAmong : Book → List Item → Fault → Type 0
-LacksAmong b [] f = ⊥
-LacksAmong b (i ∷ is) f = Lacks b i.place i.entry f ⊎ ((c : Book) × (takes b i.place i.entry ≡ Ok c) × LacksAmong c is f)
+abbrev pub MemoryFaultAmong : Book → List Item → Fault → Type 0
+MemoryFaultAmong b [] f = ⊥
+MemoryFaultAmong b (i ∷ is) f = MemoryFaultAt b i.place i.entry f ⊎ ((c : Book) × (takes b i.place i.entry ≡ Ok c) × MemoryFaultAmong c is f)
 
 -- a job that is too long is refused before any memory is wanted
-abbrev pub LacksMemory : List ℕ → Fault → Type 0
-LacksMemory job f = (length job ≤ 65536) × LacksAmong empty (heading (reading job 0).items) f
+abbrev pub MemoryFault : List ℕ → Fault → Type 0
+MemoryFault job f = (length job ≤ 65536) × MemoryFaultAmong empty (heading (reading job 0).items) f
 
 abbrev pub Refuses : {X : Type 0} → Result X Fault → (Fault → Type 0) → Fault → Type 0
 Refuses d w f = (d ≡ Err f) ⊎ w f

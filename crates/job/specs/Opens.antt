@@ -4,8 +4,9 @@
 -- book_in es         the book of these
 -- NoText es          none of the records es is a text
 -- BeginWith es xs e  the records es begin with the records xs, none of which is a text, and then e
--- ClosedAt es s at   the book of the records es is closed at this place, where s is the fault at which reading stopped behind them
--- FirstFault es s f  f is the first fault of a job of the records es, behind which reading stopped at the fault s
+-- ClosedAt es s at   the book of the records es, if no pattern is refused, is to be closed at this place, where s is the fault at which reading stopped behind them
+-- FirstFault es s f  f is the first fault up to the first text, or else to the end, of a job of the records es, behind which reading
+--                    stopped at the fault s
 -- OpensAs job es s   the job opens to the book of the records es exactly where that is within the bounds, has a pattern and is closed;
 --                    and what comes instead is exactly the first fault
 -- OpensSo            so does every job of at most 65,536 bytes that is records in a row, and then nothing or a first record that is refused

@@ -3,7 +3,7 @@ ghost use Rattle.pattern.specs.Closed.{book_of};
 ghost use Rattle.pattern.specs.Contents.{empty};
 ghost use Rattle.pattern.specs.Entering.{open_of};
 ghost use Rattle.job.specs.Records.{reading};
-ghost use Rattle.job.specs.Opening.{heading, texts, texts_at, takes, closes, opening, opened, Lacks, LacksAmong, LacksMemory, Refuses};
+ghost use Rattle.job.specs.Opening.{heading, texts, texts_at, takes, closes, opening, opened, MemoryFaultAt, MemoryFaultAmong, MemoryFault, Refuses};
 ghost use Rattle.job.specs.Reading.{entry};
 
 use crate::reader::Reader;
@@ -29,7 +29,7 @@ struct Filled {
 /// A record before the texts.
 #[tactic(auto, using(crate::proofs::Openings::lacks_or))]
 fn take(patterns: &mut Patterns, place: usize, it: Record<'_>) -> Result<(), Fault>
-    ensures { MatchResult result (λ _. takes (open_of patterns.old) place (entry it.entry) ≡ Ok (open_of patterns.new)) (Refuses (takes (open_of patterns.old) place (entry it.entry)) (Lacks (open_of patterns.old) place (entry it.entry))) }
+    ensures { MatchResult result (λ _. takes (open_of patterns.old) place (entry it.entry) ≡ Ok (open_of patterns.new)) (Refuses (takes (open_of patterns.old) place (entry it.entry)) (MemoryFaultAt (open_of patterns.old) place (entry it.entry))) }
 {
     match it {
         Record::Pattern(bytes) => {
@@ -44,7 +44,7 @@ fn take(patterns: &mut Patterns, place: usize, it: Record<'_>) -> Result<(), Fau
 
 /// Enters the records up to the first text.
 fn fill(heap: Global, job: &[u8]) -> Result<Filled, Fault>
-    ensures { MatchResult result (λ f. (opening empty (reading job.now 0) (length job.now) ≡ closes (open_of f.patterns) f.at) × (reading job.now f.at ≡ texts (reading job.now 0)) × (f.at ≡ texts_at (texts (reading job.now 0)).items (length job.now))) (Refuses (opening empty (reading job.now 0) (length job.now)) (LacksAmong empty (heading (reading job.now 0).items))) }
+    ensures { MatchResult result (λ f. (opening empty (reading job.now 0) (length job.now) ≡ closes (open_of f.patterns) f.at) × (reading job.now f.at ≡ texts (reading job.now 0)) × (f.at ≡ texts_at (texts (reading job.now 0)).items (length job.now))) (Refuses (opening empty (reading job.now 0) (length job.now)) (MemoryFaultAmong empty (heading (reading job.now 0).items))) }
 {
     let mut patterns = Patterns::new(heap);
     let mut reader = Reader::new(job);
@@ -74,7 +74,7 @@ pub struct Opened<'a> {
 /// Reads a job up to its first text, and closes its book there, or else at the job's end. It answers the first fault up to there,
 /// or want of memory for a pattern that would have been entered.
 pub fn open<'a>(heap: Global, job: &'a [u8]) -> Result<Opened<'a>, Fault>
-    ensures { MatchResult result (λ o. (opened job.now ≡ Ok (book_of o.book)) × (o.texts.job.now ≡ job.now) × (reading job.now o.texts.at ≡ texts (reading job.now 0)) × (o.texts.at ≡ texts_at (texts (reading job.now 0)).items (length job.now))) (Refuses (opened job.now) (LacksMemory job.now)) }
+    ensures { MatchResult result (λ o. (opened job.now ≡ Ok (book_of o.book)) × (o.texts.job.now ≡ job.now) × (reading job.now o.texts.at ≡ texts (reading job.now 0)) × (o.texts.at ≡ texts_at (texts (reading job.now 0)).items (length job.now))) (Refuses (opened job.now) (MemoryFault job.now)) }
 {
     if job.len() > MAX_JOB {
         return Err(Refusal::JobTooLong.at(0));

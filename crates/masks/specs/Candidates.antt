@@ -5,8 +5,7 @@
 -- candidates n means m seen xs   the candidates of the window xs
 -- kept count k old new           what the k-th mask leaves for the next window: what it admits now, unless it is the last of the
 --                                count masks or lies behind it: then it leaves old
--- Tests n means m seen xs r seen'   what `candidate` does with the window xs: r has its candidates, and seen' what the masks admitted
---                                there
+-- Tests n means m seen xs r seen'   the window xs was tested: r has its candidates, and seen' what each mask leaves for the next window
 use Rattle.std.specs.Prelude.{◌≡◌, ℕ, zero, suc, cond, List, ◌==◌}
 use Rattle.vector.specs.Lanes.{shifted_in, anded}
 use Rattle.masks.specs.declared.candidate.Masks.{Masks}

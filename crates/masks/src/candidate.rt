@@ -43,7 +43,8 @@ impl<V: Vector> Seen<V> {
 
 impl<V: Vector> Masks<V> {
     /// The buckets for which each place of a window is a candidate: lane i speaks of the place `count` - 1 before its byte.
-    /// `seen` then holds what the masks admitted here.
+    /// `seen` then holds what each mask leaves for the next window: what it admitted here, but for the last one in use and those behind
+    /// it.
     pub fn candidate(&self, chunk: V, seen: &mut Seen<V>) -> V
         ensures { Tests V.count V.lanes self.now seen.old (V.lanes chunk) result seen.new }
     {

@@ -9,7 +9,7 @@ use vector::vector::Vector;
 impl<V: Vector> Masks<V> {
     /// The candidates of the window of a text at a place, for the masks of a book: digit k of lane i is set exactly if mask j
     /// admits the bucket k for the byte j behind the lane's place, for all j below the mask count. Of these bytes only those are
-    /// tested that were loaded since `seen` was blank; `seen` then holds what the masks admitted here.
+    /// tested that were loaded since `seen` was blank; `seen` then holds what each mask leaves for the next window.
     pub fn window(&self, text: &[u8], at: usize, seen: &mut Seen<V>) -> V
         ensures tests { Tests V.count V.lanes self.now seen.old (loaded V.count text.now at) result seen.new }
         ensures exact { Exact V.count V.lanes self.now at text.now seen.old result seen.new }

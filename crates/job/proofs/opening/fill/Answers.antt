@@ -6,7 +6,7 @@ use Rattle.rules.specs.Faults.{refused}
 use Rattle.job.specs.Format.{good, step}
 use Rattle.job.specs.Reading.{entry}
 use Rattle.job.specs.Records.{reading}
-use Rattle.job.specs.Opening.{texts, texts_at, takes, closes, opening, Lacks, Refuses}
+use Rattle.job.specs.Opening.{texts, texts_at, takes, closes, opening, MemoryFaultAt, Refuses}
 use Rattle.job.proofs.Steps.{step_next}
 use Rattle.job.proofs.Openings.{fill_text, fill_again, fill_fault, fill_bad, fill_over}
 use Rattle.job.proofs.Told.{told_some, told_none, told_bad, placed_some, no_text}
@@ -68,7 +68,7 @@ returns-in_err-take c =
     let e = entry c.in-Some.placed.«record» in
     let f = c.in_err-take.field-0.0 in
     rw (p.1, p.2)
-    (fill_fault c.args.job.now b at i.2 i.3 i.4 e c.next.new.self.at f (stepped a) (no_text c.in-Some.placed.«record» c.in_default-record.not-Text) (subst (λ n. Refuses (takes b n e) (Lacks b n e) f) (there a) c.in_err-take.ensures))
+    (fill_fault c.args.job.now b at i.2 i.3 i.4 e c.next.new.self.at f (stepped a) (no_text c.in-Some.placed.«record» c.in_default-record.not-Text) (subst (λ n. Refuses (takes b n e) (MemoryFaultAt b n e) f) (there a) c.in_err-take.ensures))
 
 pub returns : goal.returns
 returns c =
