@@ -8,7 +8,7 @@ use crate::intake::Intake;
 use finder::finder::Finder;
 use std::alloc::Global;
 
-/// Calls that are to be made in turn, with room for the reply to each: so that making them needs no memory.
+/// Calls that are to be made in turn, and a list with room for the reply to each: so that making them needs no memory.
 #[derive(Drop)]
 pub struct Batch<'a> {
     calls: Vec<Call<'a>>,
@@ -20,9 +20,11 @@ pub struct Batch<'a> {
 impl<'a> Batch<'a> {
     ghost use Rattle.intake.specs.Batches.{calls_of};
 
-    /// A batch of calls. Where there is no memory for the replies the calls are given back.
+    /// A batch of calls, with a new list for their replies. Where there is no memory for that list the calls are given back;
+    /// without calls it needs none.
     pub fn new(heap: Global, calls: Vec<Call<'a>>) -> Result<Batch<'a>, Vec<Call<'a>>>
-        ensures { MatchResult result (λ batch. calls_of batch ≡ calls.entry.items) (λ back. back.items ≡ calls.entry.items) }
+        ensures calls { MatchResult result (λ batch. calls_of batch ≡ calls.entry.items) (λ back. back.items ≡ calls.entry.items) }
+        ensures no_calls { vec_len calls.entry ≡ 0 → IsOk result }
     {
         let Ok(replies) = Vec::with_capacity(heap, calls.len()) else {
             return Err(calls);
@@ -30,8 +32,8 @@ impl<'a> Batch<'a> {
         Ok(Batch { calls, replies })
     }
 
-    /// A batch of calls over a list for their replies, which has no replies and room for all of them; any other list, and the
-    /// calls, are given back.
+    /// A batch of calls, with a list for their replies that is handed in. That list must be empty and have room for a reply to
+    /// each call; else both are given back as they were.
     pub fn over(
         calls: Vec<Call<'a>>,
         replies: Vec<Reply>,
@@ -45,15 +47,17 @@ impl<'a> Batch<'a> {
         Ok(Batch { calls, replies })
     }
 
-    /// Makes each call in turn, and answers the replies.
+    /// Makes each call in turn, and answers the reply to each, in the list that the batch has for them. It cannot fail: a refusal
+    /// is a reply as well.
     pub fn serve_all<F: Finder>(self, intake: &mut Intake<F>) -> Vec<Reply>
         ensures finder { intake.new.finder ≡ intake.old.finder }
-        ensures replies { (vec_len result ≡ length (calls_of self.entry)) × All Outside result.items }
+        ensures each { vec_len result ≡ length (calls_of self.entry) }
+        ensures outside { All Outside result.items }
         ensures served { (p : Past) → Serves F.book p intake.old → Serves F.book (following p (pairs (map asks (calls_of self.entry)) (map tell result.items))) intake.new }
     {
         let Batch { calls, mut replies } = self;
         let mut left = calls.into_iter();
-        // No `for`, which would let go of what it has not gone over: a call need not be one that may be let go.
+        // No `for`, which asks that a call may be dropped: so calls that may not be would serve as well.
         while let Some(call) = left.next() {
             replies.push_reserved(serve(intake, call));
         }

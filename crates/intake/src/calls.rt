@@ -19,7 +19,7 @@ pub enum Call<'a> {
     Tally(PatternID),
 }
 
-/// What a call came back with.
+/// What a call came back with. A fault in it is outside a job, at the place 0.
 #[derive(Drop)]
 pub enum Reply {
     /// The answer to a scan, and the list that was handed in.
@@ -28,7 +28,7 @@ pub enum Reply {
     Tallied(Result<u32, Fault>),
 }
 
-/// Makes one call.
+/// Makes one call. A refusal is a reply as well, and alters nothing.
 pub fn serve<F: Finder>(intake: &mut Intake<F>, call: Call<'_>) -> Reply
     ensures finder { intake.new.finder ≡ intake.old.finder }
     ensures outside { Outside result }
@@ -43,17 +43,28 @@ pub fn serve<F: Finder>(intake: &mut Intake<F>, call: Call<'_>) -> Reply
     }
 }
 
-/// What a run of calls leaves: the intake, and the reply to each call.
+/// What a batch of calls leaves: the intake, and the reply to each call in turn.
 #[derive(Drop)]
 pub struct Run<F: Finder> {
     pub intake: Intake<F>,
     pub replies: Vec<Reply>,
 }
 
-/// Makes an intake, and then each call in turn.
+/// Makes an intake of a searcher, and then each call of a batch in turn. It cannot fail.
 pub fn make_and_serve<F: Finder>(finder: F, batch: Batch<'_>) -> Run<F>
     ensures finder { result.intake.finder ≡ finder }
-    ensures replies { (vec_len result.replies ≡ length (calls_of batch.entry)) × All Outside result.replies.items }
+    ensures each { vec_len result.replies ≡ length (calls_of batch.entry) }
+    ensures outside { All Outside result.replies.items }
+    ensures served { Serves F.book (following (made_over (F.book finder)) (pairs (map asks (calls_of batch.entry)) (map tell result.replies.items))) result.intake }
+{
+    serve_new(finder, batch)
+}
+
+// Beside `make_and_serve`, since its law is proved by hand: an edit of the public function is to be refused at its own line.
+fn serve_new<F: Finder>(finder: F, batch: Batch<'_>) -> Run<F>
+    ensures finder { result.intake.finder ≡ finder }
+    ensures each { vec_len result.replies ≡ length (calls_of batch.entry) }
+    ensures outside { All Outside result.replies.items }
     ensures served { Serves F.book (following (made_over (F.book finder)) (pairs (map asks (calls_of batch.entry)) (map tell result.replies.items))) result.intake }
 {
     let mut intake = Intake::new(finder);

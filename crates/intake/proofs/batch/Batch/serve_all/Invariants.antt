@@ -6,16 +6,18 @@ use Rattle.intake.specs.Calls.{asks, tell, pairs, following, Outside}
 use Rattle.intake.specs.Intakes.{Serves}
 use Rattle.intake.proofs.batch.Batch.serve_all.Given as goal
 
--- done are the calls that were made
+-- `done` are the calls that were made
 abbrev pub invariant-loop-call : goal.invariant-loop-call
 invariant-loop-call g l =
-    (done : List Call)
-    × (done ++ into_iter_items l.left ≡ into_iter_items l.initial.left)
-    × (vec_len l.replies ≡ length done)
-    × (length (into_iter_items l.initial.left) ≤ vec_capacity l.replies)
-    × (l.intake.finder ≡ l.initial.intake.finder)
-    × All Outside (vec_items l.replies)
-    × ((p : Past) → Serves g.F.Finder.book p l.initial.intake → Serves g.F.Finder.book (following p (pairs (map asks done) (map tell (vec_items l.replies)))) l.intake)
+    record {
+      done : List Call;
+      parts : done ++ into_iter_items l.left ≡ into_iter_items l.initial.left;
+      each : vec_len l.replies ≡ length done;
+      room : length (into_iter_items l.initial.left) ≤ vec_capacity l.replies;
+      finder : l.intake.finder ≡ l.initial.intake.finder;
+      outside : All Outside (vec_items l.replies);
+      served : (p : Past) → Serves g.F.Finder.book p l.initial.intake → Serves g.F.Finder.book (following p (pairs (map asks done) (map tell (vec_items l.replies)))) l.intake;
+    }
 
 abbrev pub decreases-loop-call : goal.decreases-loop-call
 decreases-loop-call g l = into_iter_len l.left
