@@ -5,9 +5,11 @@
 
 use account::account::Account;
 use account::report::report;
-use account::run::run;
+use account::run::{run, run_with};
 use anyhow::ensure;
+use finder::plain::Plain;
 use model::Expected;
+use rabinkarp::rabinkarp::RabinKarp;
 use random::Random;
 use std::alloc::Global;
 use totals::Totals;
@@ -62,12 +64,26 @@ fn compare(
     Ok(())
 }
 
-/// Runs a job through the model and through what is to be tried.
+/// Runs a job through the model, and then as `pnscan` does, with the plain searcher and with the rolling hash.
 fn try_job(rt: &(impl Print + AllocGlobal), totals: &mut Totals, job: &[u8]) -> anyhow::Result<()> {
     let heap = rt.alloc();
     let expected = model::expect(heap, job)?;
     totals.note(&expected);
-    compare(rt, totals, job, &expected, &run(heap, job))
+    compare(rt, totals, job, &expected, &run(heap, job))?;
+    compare(
+        rt,
+        totals,
+        job,
+        &expected,
+        &run_with::<Plain>(heap, job, ()),
+    )?;
+    compare(
+        rt,
+        totals,
+        job,
+        &expected,
+        &run_with::<RabinKarp>(heap, job, ()),
+    )
 }
 
 fn main(rt: HostRuntime) -> anyhow::Result<()> {
