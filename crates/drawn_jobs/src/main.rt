@@ -23,7 +23,7 @@ mod record;
 mod totals;
 
 /// How many jobs are drawn, besides those at the bounds.
-const JOBS: usize = 2000;
+const JOBS: usize = 5000;
 
 /// Prints a job in hex, what the model says of it, and what is printed of it instead.
 fn show(
