@@ -1,5 +1,5 @@
 //! Runs many drawn jobs, and compares what is printed of each with what a plain model of the rules says. The first job for
-//! which they differ is printed in hex with both.
+//! which they differ is printed in hex with both. The argument, if there is one, says how many jobs are drawn.
 
 #![tactic(auto)]
 
@@ -11,7 +11,8 @@ use finder::plain::Plain;
 use model::Expected;
 use rabinkarp::rabinkarp::RabinKarp;
 use random::Random;
-use std::alloc::Global;
+use std::env;
+use std::rt::Env;
 use totals::Totals;
 
 mod bounds;
@@ -22,8 +23,16 @@ mod random;
 mod record;
 mod totals;
 
-/// How many jobs are drawn, besides those at the bounds.
-const JOBS: usize = 5000;
+/// How many jobs are drawn where no number is given: few enough for `rt try`, which runs a program some hundred times slower.
+const JOBS: usize = 500;
+
+/// How many jobs are to be drawn, besides those at the bounds.
+fn job_count(rt: &(impl Env + AllocGlobal)) -> anyhow::Result<usize> {
+    match env::args(rt)?.nth(1) {
+        Some(number) => Ok(number.as_str().parse::<usize>()?),
+        None => Ok(JOBS),
+    }
+}
 
 /// Prints a job in hex, what the model says of it, and what is printed of it instead.
 fn show(
@@ -90,7 +99,7 @@ fn main(rt: HostRuntime) -> anyhow::Result<()> {
     let heap = rt.alloc();
     let mut random = Random::new();
     let mut totals = Totals::new();
-    for _ in 0..JOBS {
+    for _ in 0..job_count(&rt)? {
         let job = drawing::job(heap, &mut random)?;
         let job = damage::perhaps(heap, &mut random, job)?;
         try_job(&rt, &mut totals, &job)?;
