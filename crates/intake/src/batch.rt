@@ -1,4 +1,4 @@
-ghost use Rattle.std.specs.Prelude.{◌≡◌, ◌≤◌, ◌↔◌, [], map, length, vec_len, vec_capacity, All, IsOk, MatchResult};
+ghost use Rattle.std.specs.Prelude.{◌≡◌, ◌≤◌, ◌↔◌, [], map, length, vec_len, vec_capacity, All, IsOk, IfOk, MatchResult};
 ghost use Rattle.rules.specs.History.{Past};
 ghost use Rattle.intake.specs.Calls.{asks, tell, pairs, following, Outside};
 ghost use Rattle.intake.specs.Intakes.{Serves};
@@ -18,12 +18,12 @@ pub struct Batch<'a> {
 }
 
 impl<'a> Batch<'a> {
-    ghost use Rattle.intake.specs.Batches.{calls_of};
+    ghost use Rattle.intake.specs.Batches.{calls_of, room_of};
 
     /// A batch of calls, with a new list for their replies. Where there is no memory for that list the calls are given back;
     /// without calls it needs none.
     pub fn new(heap: Global, calls: Vec<Call<'a>>) -> Result<Batch<'a>, Vec<Call<'a>>>
-        ensures calls { MatchResult result (λ batch. calls_of batch ≡ calls.entry.items) (λ back. back.items ≡ calls.entry.items) }
+        ensures calls { MatchResult result (λ batch. calls_of batch ≡ calls.entry.items) (λ back. back ≡ calls.entry) }
         ensures no_calls { vec_len calls.entry ≡ 0 → IsOk result }
     {
         let Ok(replies) = Vec::with_capacity(heap, calls.len()) else {
@@ -39,7 +39,8 @@ impl<'a> Batch<'a> {
         replies: Vec<Reply>,
     ) -> Result<Batch<'a>, (Vec<Call<'a>>, Vec<Reply>)>
         ensures room { IsOk result ↔ ((replies.items ≡ []) × (vec_len calls.entry ≤ vec_capacity replies)) }
-        ensures calls { MatchResult result (λ batch. calls_of batch ≡ calls.entry.items) (λ back. (back.0.items ≡ calls.entry.items) × (back.1 ≡ replies)) }
+        ensures calls { MatchResult result (λ batch. calls_of batch ≡ calls.entry.items) (λ back. (back.0 ≡ calls.entry) × (back.1 ≡ replies)) }
+        ensures list { IfOk result (λ batch. room_of batch ≡ vec_capacity replies) }
     {
         if !replies.is_empty() || calls.len() > replies.capacity() {
             return Err((calls, replies));
@@ -47,10 +48,11 @@ impl<'a> Batch<'a> {
         Ok(Batch { calls, replies })
     }
 
-    /// Makes each call in turn, and answers the reply to each, in the list that the batch has for them. It cannot fail: a refusal
+    /// Makes each call in turn, and answers the reply to each, in the list that the batch has for them, which keeps its room. It cannot fail: a refusal
     /// is a reply as well.
     pub fn serve_all<F: Finder>(self, intake: &mut Intake<F>) -> Vec<Reply>
         ensures finder { intake.new.finder ≡ intake.old.finder }
+        ensures list { vec_capacity result ≡ room_of self.entry }
         ensures each { vec_len result ≡ length (calls_of self.entry) }
         ensures outside { All Outside result.items }
         ensures served { (p : Past) → Serves F.book p intake.old → Serves F.book (following p (pairs (map asks (calls_of self.entry)) (map tell result.items))) intake.new }

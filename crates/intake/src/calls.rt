@@ -1,6 +1,6 @@
-ghost use Rattle.std.specs.Prelude.{◌≡◌, map, length, vec_len, All};
+ghost use Rattle.std.specs.Prelude.{◌≡◌, map, length, vec_len, vec_capacity, All};
 ghost use Rattle.rules.specs.History.{made_over};
-ghost use Rattle.intake.specs.Batches.{calls_of};
+ghost use Rattle.intake.specs.Batches.{calls_of, room_of};
 ghost use Rattle.intake.specs.Calls.{asks, tell, pairs, following, Outside};
 ghost use Rattle.intake.specs.Intakes.{Serves, ServesCall};
 
@@ -22,7 +22,7 @@ pub enum Call<'a> {
 /// What a call came back with. A fault in it is outside a job, at the place 0.
 #[derive(Drop)]
 pub enum Reply {
-    /// The answer to a scan, and the list that was handed in.
+    /// The answer to a scan, and the list that was handed in, as the scan left it.
     Scanned(Result<usize, Fault>, Vec<Match>),
     /// A tally.
     Tallied(Result<u32, Fault>),
@@ -53,6 +53,7 @@ pub struct Run<F: Finder> {
 /// Makes an intake of a searcher, and then each call of a batch in turn. It cannot fail.
 pub fn make_and_serve<F: Finder>(finder: F, batch: Batch<'_>) -> Run<F>
     ensures finder { result.intake.finder ≡ finder }
+    ensures list { vec_capacity result.replies ≡ room_of batch.entry }
     ensures each { vec_len result.replies ≡ length (calls_of batch.entry) }
     ensures outside { All Outside result.replies.items }
     ensures served { Serves F.book (following (made_over (F.book finder)) (pairs (map asks (calls_of batch.entry)) (map tell result.replies.items))) result.intake }
@@ -63,6 +64,7 @@ pub fn make_and_serve<F: Finder>(finder: F, batch: Batch<'_>) -> Run<F>
 // Beside `make_and_serve`, since its law is proved by hand: an edit of the public function is to be refused at its own line.
 fn serve_new<F: Finder>(finder: F, batch: Batch<'_>) -> Run<F>
     ensures finder { result.intake.finder ≡ finder }
+    ensures list { vec_capacity result.replies ≡ room_of batch.entry }
     ensures each { vec_len result.replies ≡ length (calls_of batch.entry) }
     ensures outside { All Outside result.replies.items }
     ensures served { Serves F.book (following (made_over (F.book finder)) (pairs (map asks (calls_of batch.entry)) (map tell result.replies.items))) result.intake }

@@ -14,6 +14,7 @@ loop-call-init g c =
       parts = refl;
       each = omega (arith, batch.replies.ok.0, ap length batch.blank);
       room = omega (arith, ap length c.into_iter-left.ensures.rest, batch.calls.ok.0, batch.room);
+      list = refl;
       finder = refl;
       outside = subst (All Outside) (sym batch.blank) (λ k d h. absurd (omega (arith, h)));
       served = λ p s. subst (λ es. Serves g.F.Finder.book (record { first = p.first; events = es }) c.args.intake.now) (sym (append-nil p.events)) s;
@@ -33,6 +34,7 @@ loop-call-preserved g c =
       parts = append_assoc i.done (call ∷ []) _ ∙ ap (λ xs. i.done ++ xs) (sym c.in-Some.ensures.items) ∙ i.parts;
       each = omega (arith, c.push_reserved.ensures.len, length_push i.done call, i.each);
       room = omega (arith, c.push_reserved.ensures.capacity, i.room);
+      list = c.push_reserved.ensures.capacity ∙ i.list;
       finder = c.serve.ensures.finder ∙ i.finder;
       outside = subst (All Outside) (sym c.push_reserved.ensures.items) (All-push Outside old c.serve.result i.outside c.serve.ensures.outside);
       served = λ p s. one_more (λ q. Serves g.F.Finder.book q c.loop-call.intake) (λ q. Serves g.F.Finder.book q c.serve.new.intake) p _ _ (asks call) (tell c.serve.result) more c.serve.ensures.served (i.served p s);

@@ -14,6 +14,7 @@ invariant-loop-call g l =
       parts : done ++ into_iter_items l.left ≡ into_iter_items l.initial.left;
       each : vec_len l.replies ≡ length done;
       room : length (into_iter_items l.initial.left) ≤ vec_capacity l.replies;
+      list : vec_capacity l.replies ≡ vec_capacity l.initial.replies;
       finder : l.intake.finder ≡ l.initial.intake.finder;
       outside : All Outside (vec_items l.replies);
       served : (p : Past) → Serves g.F.Finder.book p l.initial.intake → Serves g.F.Finder.book (following p (pairs (map asks done) (map tell (vec_items l.replies)))) l.intake;
