@@ -1,7 +1,8 @@
 //! The candidates of a window.
 ghost use Rattle.std.specs.Prelude.{◌≡◌};
 ghost use Rattle.vector.specs.Lanes.{splatted};
-ghost use Rattle.masks.specs.Candidates.{Tests};
+ghost use Rattle.masks.specs.Members.{admitted};
+ghost use Rattle.masks.specs.Candidates.{candidates, kept};
 
 use crate::mask::Mask;
 use vector::vector::Vector;
@@ -46,7 +47,10 @@ impl<V: Vector> Masks<V> {
     /// `seen` then holds what each mask leaves for the next window: what it admitted here, but for the last one in use and those behind
     /// it.
     pub fn candidate(&self, chunk: V, seen: &mut Seen<V>) -> V
-        ensures { Tests V.count V.lanes self.now seen.old (V.lanes chunk) result seen.new }
+        ensures found { V.lanes result ≡ candidates V.count V.lanes self.now seen.old (V.lanes chunk) }
+        ensures first { V.lanes seen.new.first ≡ kept self.now.count 1 (V.lanes seen.old.first) (admitted V.count V.lanes self.now.first (V.lanes chunk)) }
+        ensures second { V.lanes seen.new.second ≡ kept self.now.count 2 (V.lanes seen.old.second) (admitted V.count V.lanes self.now.second (V.lanes chunk)) }
+        ensures third { V.lanes seen.new.third ≡ kept self.now.count 3 (V.lanes seen.old.third) (admitted V.count V.lanes self.now.third (V.lanes chunk)) }
     {
         // One search for every mask count: a rule of the project.
         match self.count {

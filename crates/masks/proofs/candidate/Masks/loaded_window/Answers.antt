@@ -8,7 +8,15 @@ use Rattle.masks.proofs.Loaded.{sees}
 use Rattle.masks.proofs.candidate.Masks.loaded_window.Goals as goal
 
 pub returns-clause-tests : goal.returns-clause-tests
-returns-clause-tests g c = rw c.load.ensures at c.candidate.ensures
+returns-clause-tests g c =
+    let chunk = c.load.ensures in
+    let said = c.candidate.ensures in
+    record {
+      found = rw chunk at said.found;
+      first = rw chunk at said.first;
+      second = rw chunk at said.second;
+      third = rw chunk at said.third;
+    }
 
 pub returns-clause-exact : goal.returns-clause-exact
 returns-clause-exact g c b ids key low of le saw =
