@@ -44,7 +44,6 @@ pub(crate) fn scan_text<F: Finder>(
     lines.try_reserve(MAX_HITS)?;
     let number = intake.count();
     let n = intake.scan_at(place, text, hits.as_mut_slice())?;
-    // By `split_at`, since a slice by a range gets no proof for hits, whose ids are seen as numbers.
     note(lines, number, hits.as_slice().split_at(n).0);
     Ok(())
 }

@@ -48,8 +48,8 @@ impl<'a> Batch<'a> {
         Ok(Batch { calls, replies })
     }
 
-    /// Makes each call in turn, and answers the reply to each, in the list that the batch has for them, which keeps its room. It cannot fail: a refusal
-    /// is a reply as well.
+    /// Makes each call in turn, and answers the reply to each, in the list that the batch has for them, which keeps its room. It
+    /// cannot fail: a refusal is a reply as well.
     pub fn serve_all<F: Finder>(self, intake: &mut Intake<F>) -> Vec<Reply>
         ensures finder { intake.new.finder ≡ intake.old.finder }
         ensures list { vec_capacity result ≡ room_of self.entry }

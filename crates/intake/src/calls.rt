@@ -61,7 +61,7 @@ pub fn make_and_serve<F: Finder>(finder: F, batch: Batch<'_>) -> Run<F>
     serve_new(finder, batch)
 }
 
-// Beside `make_and_serve`, since its law is proved by hand: an edit of the public function is to be refused at its own line.
+/// A new intake of a searcher, and what a batch of calls leaves of it.
 fn serve_new<F: Finder>(finder: F, batch: Batch<'_>) -> Run<F>
     ensures finder { result.intake.finder ≡ finder }
     ensures list { vec_capacity result.replies ≡ room_of batch.entry }

@@ -1,13 +1,15 @@
 //! An intake over the plain searcher at the edges of what it refuses: prints what each scan answers, and what its list, the
-//! count and the tallies are then.
+//! count and the tallies are then; and what a batch of calls comes back with.
 
 #![tactic(auto)]
 
 use finder::plain::Plain;
+use intake::batch::Batch;
+use intake::calls::{Call, Reply, make_and_serve};
 use intake::intake::Intake;
 use pattern::patterns::Patterns;
 use rules::primitives::{Match, PatternID};
-use std::alloc::Global;
+use std::alloc::{AllocError, Global};
 use std::io;
 use std::rc::Rc;
 
@@ -20,13 +22,69 @@ fn old() -> Match {
     }
 }
 
-/// An intake for `A` and `BC`.
-fn intake_of(heap: Global) -> anyhow::Result<Intake<Plain>> {
+/// A searcher for `A` and `BC`.
+fn searcher_of(heap: Global) -> anyhow::Result<Plain> {
     let mut patterns = Patterns::new(heap);
     patterns.add(b"A")?;
     patterns.add(b"BC")?;
     let book = Rc::new(heap, patterns.close())?;
-    Ok(Intake::new(Plain::new(book)))
+    Ok(Plain::new(book))
+}
+
+/// A scan with as many entries as hits, one with too few, a tally, and one of an id that the book lacks.
+fn calls_of(heap: Global) -> Result<Vec<Call<'static>>, AllocError> {
+    let mut calls = Vec::new(heap);
+    for room in [3, 2] {
+        calls.push(Call::Scan {
+            text: b"ABC.A",
+            hits: vec![in heap; old(); room]?,
+        })?;
+    }
+    calls.push(Call::Tally(PatternID::ZERO))?;
+    calls.push(Call::Tally(PatternID::from(2)))?;
+    Ok(calls)
+}
+
+fn show_reply(rt: &HostRuntime, reply: &Reply) -> io::Result<()> {
+    match reply {
+        Reply::Scanned(Ok(n), hits) => println!(rt;
+            "  scanned: {n} hits in a list of {}",
+            hits.len()
+        ),
+        Reply::Scanned(Err(fault), _) => println!(rt; "  scanned: {fault}"),
+        Reply::Tallied(Ok(tally)) => println!(rt; "  tallied: {tally}"),
+        Reply::Tallied(Err(fault)) => println!(rt; "  tallied: {fault}"),
+    }
+}
+
+/// The calls, with a list for their replies that is handed in and has room for so many, if that is enough.
+fn batch_over(heap: Global, room: usize) -> anyhow::Result<Option<Batch<'static>>> {
+    let batch = Batch::over(calls_of(heap)?, Vec::with_capacity(heap, room)?);
+    Ok(batch.ok())
+}
+
+/// The calls, with a new list for their replies.
+fn batch_new(heap: Global) -> anyhow::Result<Option<Batch<'static>>> {
+    let batch = Batch::new(heap, calls_of(heap)?);
+    Ok(batch.ok())
+}
+
+/// Makes the calls of a batch at a new intake.
+fn show_batch(rt: &HostRuntime, batch: Option<Batch<'static>>) -> anyhow::Result<()> {
+    let Some(batch) = batch else {
+        println!(rt; "no batch: too little room for the replies")?;
+        return Ok(());
+    };
+    let run = make_and_serve(searcher_of(rt.alloc())?, batch);
+    println!(rt;
+        "a batch: {} replies, {} texts",
+        run.replies.len(),
+        run.intake.count()
+    )?;
+    for reply in &run.replies {
+        show_reply(rt, reply)?;
+    }
+    Ok(())
 }
 
 /// A tally, or the fault of the call for it.
@@ -61,7 +119,7 @@ fn show_scan(
 }
 
 fn main(rt: HostRuntime) -> anyhow::Result<()> {
-    let mut intake = intake_of(rt.alloc())?;
+    let mut intake = Intake::new(searcher_of(rt.alloc())?);
     let mut longest = vec![in rt.alloc(); b'.'; 65535]?;
     longest.push(b'A')?;
     let mut too_long = longest.clone()?;
@@ -85,5 +143,8 @@ fn main(rt: HostRuntime) -> anyhow::Result<()> {
     for id in [PatternID::from(2), PatternID::from(1024), PatternID::MAX] {
         show_tally(&rt, &intake, id)?;
     }
-    Ok(())
+    // four calls, with room for no reply, for four, and with a list of their own
+    show_batch(&rt, batch_over(rt.alloc(), 0)?)?;
+    show_batch(&rt, batch_over(rt.alloc(), 4)?)?;
+    show_batch(&rt, batch_new(rt.alloc())?)
 }

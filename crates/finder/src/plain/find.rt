@@ -18,7 +18,7 @@ fn find_here(book: &Book, text: &[u8], start: usize) -> Option<Match>
     ensures { AnswersAt (book_of book.now) text.now start result }
 {
     let order = book.order();
-    // Over the order table with its index: what was tried in vain so far is the table up to there. A rule of the project.
+    // By the index of the order table: all ids below it were tried in vain.
     for i in 0..order.len() {
         if let Some(hit) = verify(book, order[i], text, start) {
             return Some(hit);
@@ -39,7 +39,6 @@ impl Plain {
     fn find_at(&self, text: &[u8], at: usize) -> Option<Match>
         ensures { result ≡ found (searched self.now) text.now at }
     {
-        // A loop: `find_map` gets no proof here.
         for start in at..text.len() {
             if let Some(hit) = find_here(&self.book, text, start) {
                 return Some(hit);
@@ -58,7 +57,6 @@ impl Finder for Plain {
         self.book.len()
     }
 
-    // `find_at` stands by itself, since it is proved by hand: an edit is to be refused at this line.
     fn find(&self, text: &[u8], at: usize) -> Option<Match> {
         self.find_at(text, at)
     }

@@ -93,7 +93,6 @@ impl Finder for RabinKarp {
         self.book.len()
     }
 
-    // `find_at` stands by itself, since it is proved by hand: an edit is to be refused at this line.
     fn find(&self, text: &[u8], at: usize) -> Option<Match> {
         self.find_at(text, at)
     }

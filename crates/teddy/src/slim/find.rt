@@ -43,9 +43,8 @@ impl<V: Vector> Slim<V> {
         let end = text.len() - lanes;
         let mut seen = Seen::blank();
         let mut at = from + back;
-        // Four loops with a labelled break, and no chain of iterators: a rule of the project. Each is labelled as the step that it
-        // is in the Rust: `find` goes over windows, `verify` over the 64-bit lanes of one, `verify64` over the digits set in a
-        // lane, `verify_bucket` over the patterns of a digit's bucket. A hit ends them all.
+        // Each loop is labelled as the step that it is in the Rust: `find` goes over windows, `verify` over the 64-bit lanes of one,
+        // `verify64` over the bits set in a lane, `verify_bucket` over the patterns of a bit's bucket. A hit ends them all.
         'find: loop {
             let found = masks.window(text, at, &mut seen);
             if !found.is_zero() {
