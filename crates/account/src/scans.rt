@@ -4,12 +4,10 @@ ghost use Rattle.account.specs.Accounts.{line, Noted, TextsServed, modelled};
 ghost use Rattle.job.specs.Records.{reading};
 
 use crate::account::Line;
-use finder::finder::Finder;
-use intake::intake::Intake;
-use job::reader::Reader;
-use job::record::Record;
-use rules::fault::{Fault, Refusal};
-use rules::primitives::{Match, PatternID};
+use finder::Finder;
+use intake::Intake;
+use job::{Reader, Record};
+use rules::{Fault, Match, PatternID, Refusal};
 
 /// How many hits a text may have.
 pub(crate) const MAX_HITS: usize = 4096;

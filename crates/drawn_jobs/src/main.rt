@@ -3,13 +3,11 @@
 
 #![tactic(auto)]
 
-use account::account::Account;
-use account::report::report;
-use account::run::{run, run_with};
+use account::{Account, report, run, run_with};
 use anyhow::ensure;
-use finder::plain::Plain;
+use finder::Plain;
 use model::Expected;
-use rabinkarp::rabinkarp::RabinKarp;
+use rabinkarp::RabinKarp;
 use random::Random;
 use std::env;
 use std::rt::Env;

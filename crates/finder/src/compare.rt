@@ -3,8 +3,8 @@ ghost use Rattle.rules.specs.Search.{Stands};
 ghost use Rattle.rules.specs.Places.{Verified};
 ghost use Rattle.pattern.specs.Closed.{book_of};
 
-use pattern::book::Book;
-use rules::primitives::{Match, PatternID};
+use pattern::Book;
+use rules::{Match, PatternID};
 
 /// Whether the bytes of a pattern stand in a text from a place on.
 pub fn stands(pattern: &[u8], text: &[u8], start: usize) -> bool

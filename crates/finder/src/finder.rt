@@ -2,7 +2,7 @@ ghost use Rattle.std.specs.Prelude.{◌≡◌};
 ghost use Rattle.rules.specs.Book.{Book, Within, count_of};
 ghost use Rattle.rules.specs.Search.{found};
 
-use rules::primitives::Match;
+use rules::Match;
 
 /// A searcher, by the book that it searches: it owes that book, the number of its patterns and the find, and nothing of how it was
 /// made.

@@ -2,7 +2,12 @@
 
 #![tactic(auto)]
 
-pub mod compare;
-pub mod finder;
-pub mod plain;
-pub mod searcher;
+mod compare;
+mod finder;
+mod plain;
+mod searcher;
+
+pub use compare::{stands, verify};
+pub use finder::Finder;
+pub use plain::Plain;
+pub use searcher::Searcher;

@@ -1,4 +1,4 @@
-use pattern::book::Book;
+use pattern::Book;
 use std::rc::Rc;
 
 pub mod find;

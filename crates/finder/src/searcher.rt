@@ -2,7 +2,7 @@ ghost use Rattle.std.specs.Prelude.{◌≡◌};
 ghost use Rattle.pattern.specs.Closed.{book_of};
 
 use crate::finder::Finder;
-use pattern::book::Book;
+use pattern::Book;
 use std::rc::Rc;
 
 /// A finder that can be made of a closed book, and then means that very book. So code over any kind of searcher can make one, and

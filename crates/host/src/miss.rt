@@ -3,7 +3,7 @@ ghost use Rattle.host.specs.declared.miss.Miss.TheVariants.{Refused};
 ghost use Rattle.rules.specs.declared.fault.Refusal.TheVariants.{Memory};
 ghost use Rattle.host.specs.Misses.{number_of};
 
-use rules::fault::{Fault, Refusal};
+use rules::{Fault, Refusal};
 use std::alloc::AllocError;
 
 /// Why a call writes no hit.

@@ -5,12 +5,9 @@ ghost use Rattle.host.specs.Outcomes.{text_in, text_for, outcome, TurnedDown, Sm
 
 use crate::miss::Miss;
 use crate::searcher::SearcherKind;
-use job::opening::open;
-use job::reader::Reader;
-use job::record::Record;
-use pattern::book::Book;
-use rules::fault::Refusal;
-use rules::primitives::Match;
+use job::{Reader, Record, open};
+use pattern::Book;
+use rules::{Match, Refusal};
 use std::alloc::Global;
 
 /// The text at which a reader stands.

@@ -3,16 +3,14 @@ ghost use Rattle.rules.specs.Search.{found};
 ghost use Rattle.pattern.specs.Closed.{book_of};
 ghost use Rattle.host.specs.Searchers.{searcher_of, misfits};
 
-use finder::finder::Finder;
-use finder::plain::Plain;
-use halves::array::ArrayHalf;
-use pattern::book::Book;
-use rabinkarp::rabinkarp::RabinKarp;
-use rules::primitives::Match;
+use finder::{Finder, Plain};
+use pattern::Book;
+use rabinkarp::RabinKarp;
+use rules::Match;
 use std::alloc::{AllocError, Global};
 use std::rc::Rc;
-use teddy::slim::Slim;
-use vector::single::Single;
+use teddy::Slim;
+use vector::{ArrayHalf, Single};
 
 /// A kind of searcher; one with masks has their count. The C interface has numbers for these three.
 #[derive(Clone, Copy)]

@@ -1,7 +1,7 @@
 ghost use Rattle.std.specs.Prelude.{◌≡◌, flat_map};
 ghost use Rattle.host.specs.Written.{low, written};
 
-use rules::primitives::Match;
+use rules::Match;
 
 /// An id, a start and an end, four bytes each, low byte first.
 pub(crate) fn written(hit: Match) -> [[u8; 4]; 3]

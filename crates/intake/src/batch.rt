@@ -5,7 +5,7 @@ ghost use Rattle.intake.specs.Intakes.{Serves};
 
 use crate::calls::{Call, Reply, serve};
 use crate::intake::Intake;
-use finder::finder::Finder;
+use finder::Finder;
 use std::alloc::Global;
 
 /// Calls that are to be made in turn, and a list with room for the reply to each: so that making them needs no memory.

@@ -6,9 +6,8 @@ ghost use Rattle.intake.specs.Intakes.{Serves, ServesCall};
 
 use crate::batch::Batch;
 use crate::intake::Intake;
-use finder::finder::Finder;
-use rules::fault::Fault;
-use rules::primitives::{Match, PatternID};
+use finder::Finder;
+use rules::{Fault, Match, PatternID};
 
 /// A call of an intake.
 #[derive(Drop)]

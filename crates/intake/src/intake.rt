@@ -2,7 +2,7 @@ ghost use Rattle.std.specs.Prelude.{◌*◌, ◌≤◌, sum};
 ghost use Rattle.intake.specs.Tallies.{tallies};
 
 use crate::table::Table;
-use finder::finder::Finder;
+use finder::Finder;
 
 pub mod reads;
 pub mod scans;

@@ -2,7 +2,11 @@
 
 #![tactic(auto)]
 
-pub mod batch;
-pub mod calls;
-pub mod intake;
+mod batch;
+mod calls;
+mod intake;
 mod table;
+
+pub use batch::Batch;
+pub use calls::{Call, Reply, Run, make_and_serve, serve};
+pub use intake::{Intake, MAX_TEXT, MAX_TEXTS};

@@ -3,8 +3,8 @@ ghost use Rattle.rules.specs.Search.{id_of};
 ghost use Rattle.rules.specs.Ledger.{hits_with};
 ghost use Rattle.intake.specs.Tallies.{tallies};
 
-use pattern::patterns::methods::MAX_PATTERNS;
-use rules::primitives::{Match, PatternID};
+use pattern::MAX_PATTERNS;
+use rules::{Match, PatternID};
 
 /// How often a pattern was hit.
 #[derive(Clone, Copy)]

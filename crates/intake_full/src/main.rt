@@ -2,11 +2,10 @@
 
 #![tactic(auto)]
 
-use finder::plain::Plain;
-use intake::intake::{Intake, MAX_TEXTS};
-use pattern::patterns::Patterns;
-use rules::fault::Fault;
-use rules::primitives::{Match, PatternID};
+use finder::Plain;
+use intake::{Intake, MAX_TEXTS};
+use pattern::Patterns;
+use rules::{Fault, Match, PatternID};
 use std::io;
 use std::rc::Rc;
 

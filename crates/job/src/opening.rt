@@ -8,11 +8,8 @@ ghost use Rattle.job.specs.Reading.{entry};
 
 use crate::reader::Reader;
 use crate::record::Record;
-use pattern::book::Book;
-use pattern::patterns::Patterns;
-use pattern::patterns::methods::MAX_MASKS;
-use rules::fault::{Fault, Refusal};
-use rules::primitives::MatchKind;
+use pattern::{Book, MAX_MASKS, Patterns};
+use rules::{Fault, MatchKind, Refusal};
 use std::alloc::Global;
 
 /// How many bytes a job has at the most.

@@ -3,7 +3,7 @@ ghost use Rattle.job.specs.Format.{step, made_of, bare};
 ghost use Rattle.job.specs.Reading.{as_step, place_in, entry, entries};
 
 use crate::record::{Placed, Record};
-use rules::fault::{Fault, Refusal};
+use rules::{Fault, Refusal};
 
 /// A job and the place of the next record, which a fault names.
 #[derive(Drop)]

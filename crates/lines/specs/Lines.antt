@@ -8,7 +8,7 @@ use Rattle.rules.specs.declared.primitives.MatchKind.TheVariants.{LeftmostFirst,
 use Rattle.rules.specs.Book.{Book, Within}
 use Rattle.rules.specs.Search.{found}
 use Rattle.rules.specs.Listing.{listing}
-use Rattle.hash.specs.Hash.{hash_of, leading, moved}
+use Rattle.rabinkarp.specs.Hash.{hash_of, leading, moved}
 use Rattle.vector.specs.Lanes.{row, shifted_in}
 
 abbrev pub first : List (List ℕ) → Book

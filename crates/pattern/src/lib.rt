@@ -2,6 +2,10 @@
 
 #![tactic(auto)]
 
-pub mod book;
-pub mod patterns;
-pub mod table;
+mod book;
+mod patterns;
+mod table;
+
+pub use book::Book;
+pub use patterns::Patterns;
+pub use patterns::methods::{MAX_BYTES, MAX_MASKS, MAX_PATTERNS};

@@ -3,7 +3,7 @@ ghost use Rattle.rules.specs.Book.{count_of, pattern, total};
 ghost use Rattle.rules.specs.Entered.{enter};
 ghost use Rattle.pattern.specs.Contents.{contents, Sound};
 
-use rules::primitives::{MatchKind, PatternID};
+use rules::{MatchKind, PatternID};
 use std::alloc::{AllocError, Global};
 
 /// The patterns by id, the ids in both orders, and what is kept of them.

@@ -2,9 +2,8 @@
 
 #![tactic(auto)]
 
-use account::report::report;
-use account::run::run;
-use job::opening::MAX_JOB;
+use account::{report, run};
+use job::MAX_JOB;
 use std::io::Read;
 
 /// A job above 65,536 bytes is refused, so no more than one byte more is read.

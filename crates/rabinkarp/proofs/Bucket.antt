@@ -3,9 +3,9 @@ use Rattle.std.proofs.Common.{◌≡◌, ℕ, ◌%◌, ◌<◌, List, length, ge
 use Rattle.rules.specs.Book.{count_of, shortest}
 use Rattle.rules.specs.Search.{OccursAt}
 use Rattle.pattern.specs.Closed.{order_in}
-use Rattle.hash.specs.Hash.{hash_of, window}
-use Rattle.buckets.specs.Buckets.{members, in_bucket}
-use Rattle.buckets.proofs.Members.{bucket_known, bucket_all, bucket_preferred}
+use Rattle.rabinkarp.specs.Hash.{hash_of, window}
+use Rattle.rabinkarp.specs.Buckets.{members, in_bucket}
+use Rattle.rabinkarp.proofs.Members.{bucket_known, bucket_all, bucket_preferred}
 use Rattle.finder.proofs.Choosing.{read, TriedAt}
 use Rattle.rabinkarp.specs.declared.rabinkarp.RabinKarp.{RabinKarp}
 use Rattle.rabinkarp.specs.Prefixes.{bucket_of}

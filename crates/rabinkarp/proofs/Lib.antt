@@ -1,2 +1,6 @@
+pub mod Counts
+pub mod Slices
+pub mod Members
+pub mod Windows
 pub mod Prefixes
 pub mod Bucket

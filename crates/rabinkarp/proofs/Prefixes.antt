@@ -5,7 +5,7 @@ use Rattle.std.proofs.lemmas.List.Prefix.{at_from_reads}
 use Rattle.rules.specs.Book.{Book, count_of, pattern, shortest}
 use Rattle.rules.specs.Search.{Stands}
 use Rattle.pattern.proofs.Shortest.{shortest_le}
-use Rattle.hash.specs.Hash.{hash_of, window}
+use Rattle.rabinkarp.specs.Hash.{hash_of, window}
 use Rattle.rabinkarp.specs.Prefixes.{prefix_hash}
 
 -- a pattern has as many bytes as the shortest has

@@ -1,2 +1,4 @@
+pub mod Buckets
+pub mod Hash
 pub mod Prefixes
 pub mod Searched

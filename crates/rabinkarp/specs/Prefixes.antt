@@ -2,7 +2,7 @@
 -- bucket_of b i     the bucket in which the pattern i lies
 use Rattle.std.specs.Prelude.{ℕ, ◌%◌, take}
 use Rattle.rules.specs.Book.{Book, pattern, shortest}
-use Rattle.hash.specs.Hash.{hash_of}
+use Rattle.rabinkarp.specs.Hash.{hash_of}
 
 abbrev pub prefix_hash : Book → ℕ → ℕ
 prefix_hash b i = hash_of (take (shortest b) (pattern b i))

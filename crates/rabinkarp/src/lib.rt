@@ -2,4 +2,10 @@
 
 #![tactic(auto)]
 
-pub mod rabinkarp;
+mod buckets;
+mod rabinkarp;
+mod rolling;
+
+pub use buckets::Buckets;
+pub use rabinkarp::RabinKarp;
+pub use rolling::{hash, hash_2pow, hash_rolls, update_hash};

@@ -1,13 +1,12 @@
 ghost use Rattle.std.specs.Prelude.{◌≡◌, ℕ, ◌<◌, slice_index};
 ghost use Rattle.rules.specs.Book.{count_of, shortest};
 ghost use Rattle.pattern.specs.Closed.{book_of, order_in};
-ghost use Rattle.hash.specs.Hash.{leading};
-ghost use Rattle.buckets.specs.Buckets.{members, in_bucket};
+ghost use Rattle.rabinkarp.specs.Hash.{leading};
+ghost use Rattle.rabinkarp.specs.Buckets.{members, in_bucket};
 ghost use Rattle.rabinkarp.specs.Prefixes.{prefix_hash, bucket_of};
 
-use buckets::buckets::Buckets;
-use pattern::book::Book;
-use pattern::patterns::methods::MAX_PATTERNS;
+use crate::buckets::Buckets;
+use pattern::{Book, MAX_PATTERNS};
 use std::rc::Rc;
 
 pub mod find;

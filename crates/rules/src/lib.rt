@@ -2,6 +2,10 @@
 
 #![tactic(auto)]
 
-pub mod fault;
-pub mod primitives;
-pub mod theorems;
+mod fault;
+mod primitives;
+mod theorems;
+
+pub use fault::{Fault, Refusal};
+pub use primitives::{Match, MatchKind, PatternID, SmallIndex};
+pub use theorems::rules_hold;

@@ -2,7 +2,7 @@
 use Rattle.std.proofs.Common.{◌≡◌, ℕ, ◌+◌, ◌-◌, ◌*◌, ◌/◌, ◌%◌, ◌^◌, ◌<◌, ◌≤◌, true, List, sym, ap, ◌∙◌, arith}
 use Rattle.std.proofs.lemmas.Nat.{shr-shr}
 use Rattle.std.proofs.lemmas.Nat.Bits.{bit_at_cat_low, bit_at-zero}
-use Rattle.bits.specs.Digits.{IsSet}
+use Rattle.teddy.specs.Digits.{IsSet}
 use Rattle.vector.specs.Lanes.{lane, lane64, all_zero}
 use Rattle.vector.proofs.Numbers.{zero_to}
 use Rattle.vector.proofs.Words.{byte_of_number}

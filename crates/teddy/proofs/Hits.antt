@@ -9,14 +9,14 @@ use Rattle.rules.proofs.Rule.{settled}
 use Rattle.pattern.specs.declared.book.Book.{Book as Closed}
 use Rattle.pattern.specs.Closed.{book_of, order_in}
 use Rattle.finder.proofs.Choosing.{chosen_first}
-use Rattle.buckets.specs.Buckets.{in_bucket}
-use Rattle.buckets.proofs.Members.{ordered, bucket_all, bucket_preferred}
+use Rattle.rabinkarp.specs.Buckets.{in_bucket}
+use Rattle.rabinkarp.proofs.Members.{ordered, bucket_all, bucket_preferred}
 use Rattle.pattern.proofs.Shortest.{shortest_le}
-use Rattle.tables.specs.Buckets.{front, bucket_of}
-use Rattle.tables.specs.Masks.{byte_of}
-use Rattle.tables.specs.Rules.{Bears, Admits}
-use Rattle.tables.proofs.Fronts.{leader_same}
-use Rattle.masks.specs.Places.{Candidate}
+use Rattle.teddy.specs.Buckets.{front, bucket_of}
+use Rattle.teddy.specs.Masks.{byte_of}
+use Rattle.teddy.specs.Rules.{Bears, Admits}
+use Rattle.teddy.proofs.Fronts.{leader_same}
+use Rattle.teddy.specs.Places.{Candidate}
 
 -- a pattern of the bucket x % 8 occurs at the place x / 8
 abbrev pub Sits : Book → List ℕ → (ℕ → ℕ) → ℕ → Type 0

@@ -1,3 +1,11 @@
+pub mod LookUps
+pub mod Exact
+pub mod Loaded
+pub mod Filled
+pub mod Fronts
+pub mod Marking
+pub mod Standing
+pub mod Clears
 pub mod Digits
 pub mod Hits
 pub mod Made

@@ -7,12 +7,12 @@ use Rattle.pattern.specs.declared.book.Book.{Book as Closed}
 use Rattle.pattern.specs.Closed.{book_of, order_in}
 use Rattle.vector.specs.Lanes.{row}
 use Rattle.vector.proofs.Rows.{row_ext}
-use Rattle.buckets.specs.declared.buckets.Buckets.{Buckets}
-use Rattle.buckets.specs.Buckets.{members, in_bucket, Holds}
-use Rattle.buckets.proofs.Members.{ordered, bucket_same}
-use Rattle.tables.specs.Masks.{byte_of, marks, low_mask, high_mask}
-use Rattle.tables.specs.declared.mask.MaskTable.{MaskTable}
-use Rattle.tables.proofs.Marking.{marks_same}
+use Rattle.rabinkarp.specs.declared.buckets.Buckets.{Buckets}
+use Rattle.rabinkarp.specs.Buckets.{members, in_bucket, Holds}
+use Rattle.rabinkarp.proofs.Members.{ordered, bucket_same}
+use Rattle.teddy.specs.Masks.{byte_of, marks, low_mask, high_mask}
+use Rattle.teddy.specs.declared.mask_table.MaskTable.{MaskTable}
+use Rattle.teddy.proofs.Marking.{marks_same}
 use Rattle.teddy.proofs.Hits.{key_of}
 
 module _ (b : Closed) (table : List ℕ) (said : (i : ℕ) → get_or table i 0 ≡ cond (ltb i (count_of (book_of b))) (key_of b i) 0) where

@@ -1,7 +1,7 @@
 -- Every place that is sought is a digit of its window's candidates.
 use Rattle.std.proofs.Common.{◌≡◌, ℕ, ◌+◌, ◌-◌, ◌*◌, ◌/◌, ◌%◌, ◌<◌, ◌≤◌, List, subst, ⊎_elim, arith}
 use Rattle.std.proofs.lemmas.Bool.{cases_lt}
-use Rattle.masks.specs.Places.{Candidate, Shows}
+use Rattle.teddy.specs.Places.{Candidate, Shows}
 use Rattle.teddy.proofs.Digits.{SetAt}
 
 module _ (admits : ℕ → ℕ → ℕ → Type 0) (n c low at : ℕ) (text found : List ℕ) (Ok : ℕ → Type 0) (starts : c - 1 ≤ at) (shows : Shows admits c low n at text found)

@@ -8,9 +8,9 @@ use Rattle.std.specs.Prelude.{◌≡◌, ℕ, min, max, List}
 use Rattle.rules.specs.Book.{Book}
 use Rattle.pattern.specs.Closed.{book_of, order_in}
 use Rattle.rabinkarp.specs.Searched.{shared}
-use Rattle.tables.specs.declared.mask.MaskTable.{MaskTable}
-use Rattle.tables.specs.Buckets.{front, bucket_of}
-use Rattle.tables.specs.Masks.{low_mask, high_mask}
+use Rattle.teddy.specs.declared.mask_table.MaskTable.{MaskTable}
+use Rattle.teddy.specs.Buckets.{front, bucket_of}
+use Rattle.teddy.specs.Masks.{low_mask, high_mask}
 use Rattle.teddy.specs.declared.teddy_tables.Tables.{Tables}
 
 abbrev pub book_in : Tables → Book

@@ -1,2 +1,9 @@
+pub mod Members
+pub mod Candidates
+pub mod Places
+pub mod Buckets
+pub mod Masks
+pub mod Rules
+pub mod Digits
 pub mod Held
 pub mod Searched

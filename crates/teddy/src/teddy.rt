@@ -1,6 +1,6 @@
 ghost use Rattle.std.specs.Prelude.{◌≡◌, ℕ, ◌<◌, ◌≤◌};
-ghost use Rattle.buckets.specs.Buckets.{members, in_bucket};
-ghost use Rattle.tables.specs.Buckets.{front};
+ghost use Rattle.rabinkarp.specs.Buckets.{members, in_bucket};
+ghost use Rattle.teddy.specs.Buckets.{front};
 ghost use Rattle.teddy.specs.Held.{book_in, ids_in, key_in, MaskIs};
 
 use crate::teddy_tables::Tables;

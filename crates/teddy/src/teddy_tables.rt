@@ -1,6 +1,5 @@
-use buckets::buckets::Buckets;
-use rabinkarp::rabinkarp::RabinKarp;
-use tables::mask::MaskTable;
+use crate::mask_table::MaskTable;
+use rabinkarp::{Buckets, RabinKarp};
 
 /// The buckets and the masks of a book, of which the first `count` are used, beside the rolling hash, which holds the book
 /// and searches what is too short for a window.

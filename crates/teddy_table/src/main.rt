@@ -4,23 +4,16 @@
 
 ghost use Rattle.std.specs.Prelude.{◌≤◌, IfOk};
 
-use finder::finder::Finder;
-use finder::plain::Plain;
-use halves::array::ArrayHalf;
-use halves::word::WordHalf;
-use pattern::book::Book;
-use pattern::patterns::Patterns;
-use rabinkarp::rabinkarp::RabinKarp;
-use rules::fault::Fault;
-use rules::primitives::MatchKind::{LeftmostFirst, LeftmostLongest};
-use rules::primitives::{Match, MatchKind};
+use finder::{Finder, Plain};
+use pattern::{Book, Patterns};
+use rabinkarp::RabinKarp;
+use rules::MatchKind::{LeftmostFirst, LeftmostLongest};
+use rules::{Fault, Match, MatchKind};
 use std::alloc::Global;
 use std::rc::Rc;
 use std::{array, io, iter};
-use teddy::slim::Slim;
-use vector::double::Double;
-use vector::single::Single;
-use vector::vector::Vector;
+use teddy::Slim;
+use vector::{ArrayHalf, Double, Single, Vector, WordHalf};
 use xorshift::Xorshift;
 
 fn closed(heap: Global, kind: MatchKind, patterns: &[&[u8]]) -> Result<Rc<Book>, Fault> {

@@ -1,3 +1,7 @@
+pub mod Loops
+pub mod WordLanes
+pub mod Simd
+pub mod PackedWords
 pub mod Numbers
 pub mod Words
 pub mod Rows

@@ -2,7 +2,16 @@
 
 #![tactic(auto)]
 
-pub mod double;
-pub mod half;
-pub mod single;
-pub mod vector;
+mod array;
+mod double;
+mod half;
+mod single;
+mod vector;
+mod word;
+
+pub use array::ArrayHalf;
+pub use double::Double;
+pub use half::Half;
+pub use single::Single;
+pub use vector::Vector;
+pub use word::WordHalf;

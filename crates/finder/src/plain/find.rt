@@ -9,8 +9,8 @@ use crate::compare::verify;
 use crate::finder::Finder;
 use crate::plain::Plain;
 use crate::searcher::Searcher;
-use pattern::book::Book;
-use rules::primitives::Match;
+use pattern::Book;
+use rules::Match;
 use std::rc::Rc;
 
 /// The pattern that is found at one place: the first in the kind's order that stands there.

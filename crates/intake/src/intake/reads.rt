@@ -6,9 +6,8 @@ ghost use Rattle.intake.specs.Intakes.{model, Serves, ServesCall};
 
 use crate::intake::Intake;
 use crate::table::Table;
-use finder::finder::Finder;
-use rules::fault::{Fault, Refusal};
-use rules::primitives::PatternID;
+use finder::Finder;
+use rules::{Fault, PatternID, Refusal};
 
 impl<F: Finder> Intake<F> {
     /// An intake that has accepted no text, with all tallies at 0.

@@ -7,9 +7,8 @@ ghost use Rattle.rules.specs.History.{used_by};
 ghost use Rattle.intake.specs.Intakes.{model, Scans, ServesCall};
 
 use crate::intake::{Intake, MAX_TEXT, MAX_TEXTS};
-use finder::finder::Finder;
-use rules::fault::{Fault, Refusal};
-use rules::primitives::Match;
+use finder::Finder;
+use rules::{Fault, Match, Refusal};
 
 // The hits of a text from a place on: a search from there, then from each hit's end. A hit names its places in the whole text.
 #[derive(Drop)]

@@ -7,7 +7,7 @@ ghost use Rattle.pattern.specs.Closed.{book_of, order_in};
 use crate::book::Book;
 use crate::patterns::methods::MAX_MASKS;
 use crate::table::Table;
-use rules::primitives::{MatchKind, PatternID};
+use rules::{MatchKind, PatternID};
 use std::alloc::Global;
 
 impl Book {

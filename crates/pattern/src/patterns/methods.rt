@@ -6,8 +6,7 @@ ghost use Rattle.pattern.specs.Entering.{open_of, Enters, Checks, Ready};
 
 use crate::book::Book;
 use crate::patterns::Patterns;
-use rules::fault::{Fault, Refusal};
-use rules::primitives::{MatchKind, PatternID};
+use rules::{Fault, MatchKind, PatternID, Refusal};
 use std::alloc::Global;
 
 /// How many patterns a book takes.

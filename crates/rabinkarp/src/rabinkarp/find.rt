@@ -3,18 +3,16 @@ ghost use Rattle.rules.specs.Book.{shortest};
 ghost use Rattle.rules.specs.Search.{found};
 ghost use Rattle.rules.specs.Places.{AnswersAt, Verified};
 ghost use Rattle.pattern.specs.Closed.{book_of};
-ghost use Rattle.hash.specs.Hash.{hash_of, window};
+ghost use Rattle.rabinkarp.specs.Hash.{hash_of, window};
 ghost use Rattle.rabinkarp.specs.Searched.{shared, searched};
 
+use crate::buckets::Buckets;
 use crate::rabinkarp::RabinKarp;
 use crate::rabinkarp::hashes::hashes;
-use buckets::buckets::Buckets;
-use finder::compare::verify;
-use finder::finder::Finder;
-use finder::searcher::Searcher;
-use hash::{hash, hash_2pow, update_hash};
-use pattern::book::Book;
-use rules::primitives::{Match, PatternID};
+use crate::rolling::{hash, hash_2pow, update_hash};
+use finder::{Finder, Searcher, verify};
+use pattern::Book;
+use rules::{Match, PatternID};
 use std::rc::Rc;
 
 impl RabinKarp {

@@ -3,10 +3,9 @@ ghost use Rattle.rules.specs.Book.{count_of};
 ghost use Rattle.pattern.specs.Closed.{book_of};
 ghost use Rattle.rabinkarp.specs.Prefixes.{prefix_hash};
 
-use hash::hash;
-use pattern::book::Book;
-use pattern::patterns::methods::MAX_PATTERNS;
-use rules::primitives::PatternID;
+use crate::rolling::hash;
+use pattern::{Book, MAX_PATTERNS};
+use rules::PatternID;
 
 // Beside `hashes`, since that is proved by hand: an edit is to be refused at this line.
 /// The hash of a pattern's first bytes, as many as the shortest pattern has.

@@ -6,17 +6,16 @@ ghost use Rattle.rabinkarp.specs.Searched.{shared};
 ghost use Rattle.teddy.specs.Held.{nearest};
 ghost use Rattle.teddy.specs.Searched.{searched, mask_count};
 
+use crate::bits::take_lowest;
+use crate::candidate::Seen;
 use crate::slim::Slim;
 use crate::teddy::Teddy;
-use bits::take_lowest;
-use finder::finder::Finder;
-use finder::searcher::Searcher;
-use masks::candidate::Seen;
-use pattern::book::Book;
-use rules::primitives::Match;
+use finder::{Finder, Searcher};
+use pattern::Book;
+use rules::Match;
 use std::marker::PhantomData;
 use std::rc::Rc;
-use vector::vector::Vector;
+use vector::Vector;
 
 impl<V: Vector> Slim<V> {
     /// A searcher over a closed book with `masks` masks; a count that is not permitted becomes the nearest one, and one that

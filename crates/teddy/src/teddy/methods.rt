@@ -1,24 +1,22 @@
 ghost use Rattle.std.specs.Prelude.{◌≡◌, ◌<◌, map};
 ghost use Rattle.rules.specs.Places.{Verified};
 ghost use Rattle.pattern.specs.Closed.{book_of};
-ghost use Rattle.buckets.specs.Buckets.{in_bucket};
-ghost use Rattle.masks.specs.Places.{MasksOf};
+ghost use Rattle.rabinkarp.specs.Buckets.{in_bucket};
+ghost use Rattle.teddy.specs.Places.{MasksOf};
 ghost use Rattle.teddy.specs.Held.{book_in, ids_in, key_in, nearest};
 
+use crate::bucket::assign;
+use crate::candidate::Masks;
+use crate::mask::Mask;
+use crate::mask_table::MaskTable;
 use crate::teddy::Teddy;
 use crate::teddy_tables::Tables;
-use buckets::buckets::Buckets;
-use finder::compare::verify;
-use masks::candidate::Masks;
-use masks::mask::Mask;
-use pattern::book::Book;
-use pattern::patterns::methods::MAX_MASKS;
-use rabinkarp::rabinkarp::RabinKarp;
-use rules::primitives::{Match, PatternID};
+use finder::verify;
+use pattern::{Book, MAX_MASKS};
+use rabinkarp::{Buckets, RabinKarp};
+use rules::{Match, PatternID};
 use std::rc::Rc;
-use tables::bucket::assign;
-use tables::mask::MaskTable;
-use vector::vector::Vector;
+use vector::Vector;
 
 /// The permitted mask count that is nearest to `masks`.
 fn clamped(book: &Book, masks: usize) -> usize

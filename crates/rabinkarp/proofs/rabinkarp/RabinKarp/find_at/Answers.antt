@@ -3,8 +3,8 @@ use Rattle.rules.specs.declared.primitives.Match.{Match}
 use Rattle.rules.specs.Book.{shortest}
 use Rattle.rules.specs.Search.{id_of, OccursAt, found}
 use Rattle.rules.proofs.Rule.{settled, found_unique}
-use Rattle.hash.specs.Hash.{hash_of, window, leading, moved}
-use Rattle.hash.proofs.Windows.{rolling}
+use Rattle.rabinkarp.specs.Hash.{hash_of, window, leading, moved}
+use Rattle.rabinkarp.proofs.Windows.{rolling}
 use Rattle.finder.proofs.Places.{passed_more, passed_found}
 use Rattle.pattern.proofs.Shortest.{shortest_le, shortest_pos}
 use Rattle.rabinkarp.specs.declared.rabinkarp.RabinKarp.{RabinKarp}

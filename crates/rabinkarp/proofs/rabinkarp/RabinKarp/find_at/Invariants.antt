@@ -1,6 +1,6 @@
 use Rattle.std.proofs.Common.{◌≡◌}
 use Rattle.rules.specs.Book.{shortest}
-use Rattle.hash.specs.Hash.{hash_of, window}
+use Rattle.rabinkarp.specs.Hash.{hash_of, window}
 use Rattle.finder.proofs.Places.{Passed}
 use Rattle.rabinkarp.specs.Searched.{searched}
 use Rattle.rabinkarp.proofs.rabinkarp.RabinKarp.find_at.Given as goal

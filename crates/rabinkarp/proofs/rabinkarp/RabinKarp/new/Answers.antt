@@ -2,8 +2,8 @@ use Rattle.std.proofs.Common.{◌≡◌, ℕ, ◌%◌, ◌<◌, get_or, rc_value
 use Rattle.rules.specs.Book.{count_of, shortest}
 use Rattle.pattern.specs.declared.book.Book.{Book}
 use Rattle.pattern.specs.Closed.{book_of, order_in}
-use Rattle.buckets.specs.Buckets.{Holds}
-use Rattle.buckets.proofs.Members.{bucket_same}
+use Rattle.rabinkarp.specs.Buckets.{Holds}
+use Rattle.rabinkarp.proofs.Members.{bucket_same}
 use Rattle.rabinkarp.specs.Prefixes.{prefix_hash, bucket_of}
 use Rattle.rabinkarp.proofs.rabinkarp.RabinKarp.new.Goals as goal
 

@@ -5,10 +5,10 @@ use Rattle.rules.proofs.Rule.{found_unique}
 use Rattle.rabinkarp.specs.Searched.{shared}
 use Rattle.pattern.proofs.Shortest.{shortest_le}
 use Rattle.finder.proofs.Choosing.{read}
-use Rattle.buckets.specs.Buckets.{in_bucket}
-use Rattle.tables.specs.Rules.{Admits}
-use Rattle.masks.specs.Places.{Candidate, Shows, RecallsAll}
-use Rattle.masks.proofs.Exact.{blank}
+use Rattle.rabinkarp.specs.Buckets.{in_bucket}
+use Rattle.teddy.specs.Rules.{Admits}
+use Rattle.teddy.specs.Places.{Candidate, Shows, RecallsAll}
+use Rattle.teddy.proofs.Exact.{blank}
 use Rattle.teddy.specs.Held.{book_in, ids_in, key_in}
 use Rattle.teddy.proofs.Digits.{SetAt, set_64, none_in_zero, none_in_zeros}
 use Rattle.teddy.proofs.Hits.{Sits, candidate_of, tried, hit_answers, none_answers}

@@ -1,10 +1,10 @@
 use Rattle.std.proofs.Common.{ℕ, ◌+◌, ◌-◌, ◌*◌, ◌%◌, ◌<◌, ◌≤◌, ◌⊎◌, get_or}
 use Rattle.rules.specs.Search.{OccursAt}
-use Rattle.bits.specs.Digits.{IsSet}
+use Rattle.teddy.specs.Digits.{IsSet}
 use Rattle.vector.specs.Lanes.{lane64}
-use Rattle.buckets.specs.Buckets.{in_bucket}
-use Rattle.tables.specs.Rules.{Admits}
-use Rattle.masks.specs.Places.{RecallsAll}
+use Rattle.rabinkarp.specs.Buckets.{in_bucket}
+use Rattle.teddy.specs.Rules.{Admits}
+use Rattle.teddy.specs.Places.{RecallsAll}
 use Rattle.teddy.specs.Held.{book_in, ids_in, key_in}
 use Rattle.teddy.proofs.Digits.{SetAt}
 use Rattle.teddy.proofs.Hits.{Sits}

@@ -1,4 +1,0 @@
-pub mod Loops
-pub mod WordLanes
-pub mod Simd
-pub mod Words

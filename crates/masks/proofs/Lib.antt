@@ -1,3 +1,0 @@
-pub mod LookUps
-pub mod Exact
-pub mod Loaded

@@ -1,4 +1,0 @@
-pub mod Filled
-pub mod Fronts
-pub mod Marking
-pub mod Standing

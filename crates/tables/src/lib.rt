@@ -1,7 +1,0 @@
-//! The buckets and the masks of a closed book.
-
-#![tactic(auto)]
-
-pub mod bucket;
-pub mod mask;
-pub mod theorems;
