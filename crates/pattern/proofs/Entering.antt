@@ -1,23 +1,20 @@
--- The table with one pattern more, put into the longest order behind all that are at least as long.
+-- A book with one pattern more, whose id goes into the longest order behind all that are at least as long.
 use Rattle.std.proofs.lemmas.Grind.{common_steps}
-use Rattle.std.proofs.Common.{◌≡◌, ℕ, ◌+◌, ◌-◌, ◌^◌, ◌<◌, ◌≤◌, min, cond, eqb, List, [], ◌∷◌, ◌++◌, true, false, leb, length, get_or, vec_items, sym, ap, ◌∙◌, subst, inl, inr, eq-or-lt_of_le, mul-zero, arith, rules}
+use Rattle.std.proofs.Common.{◌≡◌, ℕ, ◌+◌, ◌-◌, ◌<◌, ◌≤◌, cond, eqb, List, length, get_or, sym, ap, ◌∙◌, inl, inr, mul-zero, arith, rules}
 use Rattle.std.specs.List.{insert}
-use Rattle.std.specs.List.Sorted.{IsPartitionPoint, IsPartitionedBy}
-use Rattle.std.proofs.lemmas.List.{length_push, get_or_default}
+use Rattle.std.proofs.lemmas.List.{length_push}
 use Rattle.std.proofs.lemmas.List.Edits.{length-insert, get_or-insert_at, get_or-insert_above}
-use Rattle.std.proofs.lemmas.List.Sums.{sum_by_push, fold_push}
 use Rattle.std.proofs.ByRecursion.{sum_by_le, All-from_get_or}
-use Rattle.std.proofs.lemmas.Bool.{cases_eq, ne_eqb, eq-eqb, cond-false, cond-true, leb-true, leb-false, le-leb}
-use Rattle.rules.specs.Book.{Book, count_of, size, total, shortest, Within}
+use Rattle.std.proofs.lemmas.Bool.{cases_eq, ne_eqb, eq-eqb, cond-false, cond-true}
+use Rattle.rules.specs.Limits.{max_patterns, max_bytes}
+use Rattle.rules.specs.Book.{Book, count_of, size, total, Within}
 use Rattle.rules.specs.Entered.{enter}
-use Rattle.pattern.specs.declared.table.Table.{Table}
 use Rattle.pattern.specs.Order.{times, LongestOrder}
-use Rattle.pattern.specs.Contents.{contents, longest, entries, Sound}
 
-size_old : (b : Book) (p : List ℕ) (k : ℕ) → k < count_of b → size (enter b p) k ≡ size b k
+pub size_old : (b : Book) (p : List ℕ) (k : ℕ) → k < count_of b → size (enter b p) k ≡ size b k
 size_old b p k h = grind (arith, common_steps)
 
-size_new : (b : Book) (p : List ℕ) → size (enter b p) (count_of b) ≡ length p
+pub size_new : (b : Book) (p : List ℕ) → size (enter b p) (count_of b) ≡ length p
 size_new b p = grind (arith, common_steps)
 
 times_inserted : (k : ℕ) (xs : List ℕ) (i x : ℕ) → times k (insert xs i x) ≡ cond (eqb x k) 1 0 + times k xs
@@ -91,30 +88,5 @@ module _ (b : Book) (ids : List ℕ) (p : List ℕ) (at : ℕ) (old : LongestOrd
       }
 
 -- the bounds hold on
-entered_within : (b : Book) (p : List ℕ) → Within b → 0 < length p → count_of b < 1024 → total b + length p ≤ 16384 → Within (enter b p)
+pub entered_within : (b : Book) (p : List ℕ) → Within b → 0 < length p → count_of b < max_patterns → total b + length p ≤ max_bytes → Within (enter b p)
 entered_within b p w some few short = grind (arith, common_steps)
-
--- in the longest order no pattern of n bytes or more stands behind a shorter one
-pub parted : (t : Table) (n : ℕ) → Sound t → IsPartitionedBy (λ i. leb n (size (contents t) i)) (vec_items t.order)
-parted t n s i j d le h e =
-    let ids = vec_items t.order in
-    elim (eq-or-lt_of_le le) [
-      | inl q ↦ subst (λ k. leb n (size (contents t) (get_or ids k d)) ≡ true) (sym q) e
-      | inr lt ↦ le-leb n _ (omega (arith, leb-true n _ e, s.ordered.falling i j lt (omega arith), ap (size (contents t)) (get_or_default ids i d 0 (omega arith)), ap (size (contents t)) (get_or_default ids j d 0 h)))
-    ]
-
--- the table with one pattern more
-pub entered_sound : (t u : Table) (p : List ℕ) (at : ℕ) → Sound t → 0 < length p → count_of (contents t) < 1024 → total (contents t) + length p ≤ 16384 → at ≤ length (vec_items t.order) → IsPartitionPoint (λ i. leb (length p) (size (contents t) i) ≡ true) (λ i. leb (length p) (size (contents t) i) ≡ false) (vec_items t.order) at → contents u ≡ enter (contents t) p → longest u ≡ insert (longest t) at (count_of (contents t)) → entries u ≡ entries t ++ count_of (contents t) ∷ [] → u.minimum_len ≡ min t.minimum_len (length p) → u.total_pattern_bytes ≡ t.total_pattern_bytes + length p → Sound u
-entered_sound t u p at s some few within le cut is order es least sum =
-    let b = contents t in
-    let ids = vec_items t.order in
-    let longer : (k : ℕ) → k < at → length p ≤ size b (get_or (longest t) k 0) = λ k h. omega (arith, leb-true (length p) _ (cut.0 k 0 (omega arith) h)) in
-    let shorter : (k : ℕ) → at ≤ k → k < length (longest t) → size b (get_or (longest t) k 0) < length p = λ k h l. omega (arith, leb-false (length p) _ (cut.1 k 0 h (omega arith))) in
-    record {
-      summed = omega (arith, ap total is, sum_by_push length b.patterns p);
-      least = omega (arith, ap shortest is, fold_push (λ m q. min m (length q)) (2 ^ 64 - 1) b.patterns p);
-      ordered = rw (is, order) (entered_order b (longest t) p at s.ordered (omega arith) longer shorter);
-      listed = grind (arith, common_steps);
-      rises = λ k h. grind (arith, common_steps);
-      within = rw is (entered_within b p s.within some few within);
-    }

@@ -1,15 +1,14 @@
 -- The order in which patterns are tried has every id, a preferred one before the others.
-use Rattle.std.proofs.Common.{◌≡◌, ℕ, suc, ◌<◌, cond, eqb, List, [], ◌∷◌, length, get_or, sym, inl, inr, arith, rules}
+use Rattle.std.proofs.Common.{◌≡◌, ℕ, zero, suc, ◌<◌, cond, eqb, List, [], ◌∷◌, length, get_or, refl, sym, inl, inr, arith, rules}
+use Rattle.std.proofs.lemmas.Grind.{common_steps}
+use Rattle.std.proofs.lemmas.List.{length_push}
 use Rattle.std.proofs.lemmas.List.Sums.{sum_by-cons}
 use Rattle.std.proofs.lemmas.Bool.{cases_eq, ne_eqb, cond-false}
 use Rattle.rules.specs.declared.primitives.MatchKind.{MatchKind}
 use Rattle.rules.specs.declared.primitives.MatchKind.TheVariants.{LeftmostFirst, LeftmostLongest}
 use Rattle.rules.specs.Book.{Book, count_of, size, PreferredBy}
-use Rattle.pattern.specs.declared.table.Table.{Table}
-use Rattle.pattern.specs.declared.book.Book.{Book as Closed}
-use Rattle.pattern.specs.Order.{times, ReadingOrder}
-use Rattle.pattern.specs.Contents.{contents, longest, entries, order_of, reading, Sound}
-use Rattle.pattern.specs.Closed.{book_of, order_in}
+use Rattle.pattern.specs.Order.{times, first_to, longest_to, order_by, order_in, ReadingOrder}
+use Rattle.pattern.proofs.Longest.{longest_order}
 
 -- a number that a list has stands somewhere
 place_of : (k : ℕ) (xs : List ℕ) → 0 < times k xs → (j : ℕ) × (j < length xs) × (get_or xs j 0 ≡ k)
@@ -28,30 +27,44 @@ record Tried (k : MatchKind) (b : Book) (ids : List ℕ) : Type 0 where
   all : (i : ℕ) → i < count_of b → (j : ℕ) × (j < length ids) × (get_or ids j 0 ≡ i)
   preferred : (i j : ℕ) → i < j → j < length ids → PreferredBy k b (get_or ids i 0) (get_or ids j 0)
 
-tried : (t : Table) (k : MatchKind) → Sound t → Tried k (contents t) (order_of k (entries t) (longest t))
-tried t LeftmostFirst s = record {
-  long = s.listed;
-  known = λ k h. omega (arith, s.rises k h, s.listed);
-  all = λ k h. let l : k < length (entries t) = omega (arith, s.listed) in (k, l, s.rises k l);
-  preferred = λ i j lt h. omega (arith, s.rises i (omega arith), s.rises j h);
-}
-tried t LeftmostLongest s = record {
-  long = s.ordered.long;
-  known = s.ordered.known;
-  all = λ k h. place_of k (longest t) (omega (arith, s.ordered.once k h));
-  preferred = λ i j lt h.
-      let fall = s.ordered.falling i j lt h in
-      elim (cases_eq (size (contents t) (get_or (longest t) j 0)) (size (contents t) (get_or (longest t) i 0))) [
-        | inl e ↦ inr (sym e, omega (arith, s.ordered.rising i j (lt, h, e)))
-        | inr ne ↦ inl (omega (arith, fall, ne))
-      ];
-}
+first_long : (n : ℕ) → length (first_to n) ≡ n
+first_long zero = refl
+first_long (suc n) = omega (arith, length_push (first_to n) n, first_long n)
 
-pub reading_order : (t : Table) → Sound t → ReadingOrder (contents t) (reading t)
-reading_order t s =
-    let h = tried t t.kind s in
+first_at : (n k : ℕ) → k < n → get_or (first_to n) k 0 ≡ k
+first_at zero k h = search rules
+first_at (suc n) k h = grind (arith, common_steps, first_long n, first_at n k)
+
+tried : (b : Book) (k : MatchKind) → Tried k b (order_by k b)
+tried b LeftmostFirst =
+    let l = first_long (count_of b) in
+    record {
+      long = l;
+      known = λ k h. let m : k < count_of b = omega (arith, l) in omega (arith, first_at (count_of b) k m);
+      all = λ k h. (k, omega (arith, l), first_at (count_of b) k h);
+      preferred = λ i j lt h. let m : j < count_of b = omega (arith, l) in omega (arith, first_at (count_of b) i (omega arith), first_at (count_of b) j m);
+    }
+tried b LeftmostLongest =
+    let o = longest_order b in
+    record {
+      long = o.long;
+      known = o.known;
+      all = λ k h. place_of k (longest_to b (count_of b)) (omega (arith, o.once k h));
+      preferred = λ i j lt h.
+          let ids = longest_to b (count_of b) in
+          let fall = o.falling i j lt h in
+          elim (cases_eq (size b (get_or ids j 0)) (size b (get_or ids i 0))) [
+            | inl e ↦ inr (sym e, omega (arith, o.rising i j (lt, h, e)))
+            | inr ne ↦ inl (omega (arith, fall, ne))
+          ];
+    }
+
+-- the order of every book has every id, a preferred one before the others
+pub reading_order : (b : Book) → ReadingOrder b (order_in b)
+reading_order b =
+    let h = tried b b.kind in
     record { long = h.long; known = h.known; all = h.all; preferred = h.preferred }
 
--- and so have the ids of a closed book, in the order of its kind
-pub ordered : (b : Closed) (ids : List ℕ) → ids ≡ order_in b → ReadingOrder (book_of b) ids
-ordered b ids e = rw e (reading_order b.table b.sound)
+-- and so have the ids that a closed book lends
+pub ordered : (b : Book) (ids : List ℕ) → ids ≡ order_in b → ReadingOrder b ids
+ordered b ids e = rw e (reading_order b)

@@ -2,16 +2,16 @@
 -- empty           a new book: no patterns, of the kind first entered
 -- of_kind k b     the book b with the kind k
 -- longest t       the ids in the longest order
--- reading t       the ids in the order in which patterns are tried: that of the kind
+-- entries t       the ids in order of entry
 -- Sound t         what is true of the table of every book
-use Rattle.std.specs.Prelude.{◌≡◌, ℕ, ◌<◌, List, [], map, length, vec_items, slice_index}
+use Rattle.std.specs.Prelude.{◌≡◌, ℕ, List, [], map, vec_items}
 use Rattle.rules.specs.declared.primitives.MatchKind.{MatchKind}
-use Rattle.rules.specs.declared.primitives.MatchKind.TheVariants.{LeftmostFirst, LeftmostLongest}
+use Rattle.rules.specs.declared.primitives.MatchKind.TheVariants.{LeftmostFirst}
 use Rattle.rules.specs.Book.{Book, count_of, total, shortest, Within}
-use Rattle.pattern.specs.declared.table.Table.{Table}
-use Rattle.pattern.specs.Order.{LongestOrder}
+use Rattle.pattern.specs.declared.pattern_table.PatternTable.{PatternTable}
+use Rattle.pattern.specs.Order.{first_to, longest_to}
 
-abbrev pub contents : Table → Book
+abbrev pub contents : PatternTable → Book
 contents t = record { kind = t.kind; patterns = map (λ v. vec_items v) (vec_items t.by_id) }
 
 abbrev pub empty : Book
@@ -20,25 +20,15 @@ empty = record { kind = LeftmostFirst; patterns = [] }
 abbrev pub of_kind : MatchKind → Book → Book
 of_kind k b = record { kind = k; patterns = b.patterns }
 
-abbrev pub longest : Table → List ℕ
+abbrev pub longest : PatternTable → List ℕ
 longest t = vec_items t.order
 
--- the ids in order of entry
-abbrev pub entries : Table → List ℕ
+abbrev pub entries : PatternTable → List ℕ
 entries t = vec_items t.entered
 
--- the one of the two orders that the kind reads
-abbrev pub order_of : MatchKind → List ℕ → List ℕ → List ℕ
-order_of LeftmostFirst first longest = first
-order_of LeftmostLongest first longest = longest
-
-abbrev pub reading : Table → List ℕ
-reading t = order_of t.kind (entries t) (longest t)
-
-pub record Sound (t : Table) : Type 0 where
+pub record Sound (t : PatternTable) : Type 0 where
   pub summed : t.total_pattern_bytes ≡ total (contents t)
   pub least : t.minimum_len ≡ shortest (contents t)
-  pub ordered : LongestOrder (contents t) (longest t)
-  pub listed : length (entries t) ≡ count_of (contents t)
-  pub rises : (k : ℕ) → k < length (entries t) → slice_index (entries t) k ≡ k
+  pub ordered : longest t ≡ longest_to (contents t) (count_of (contents t))
+  pub listed : entries t ≡ first_to (count_of (contents t))
   pub within : Within (contents t)

@@ -1,4 +1,3 @@
 pub mod Order
 pub mod Contents
-pub mod Closed
 pub mod Entering

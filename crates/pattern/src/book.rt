@@ -1,13 +1,101 @@
-ghost use Rattle.pattern.specs.Contents.{Sound};
+ghost use Rattle.std.specs.Prelude.{◌≡◌, ◌↔◌, [], IsTrue};
+ghost use Rattle.rules.specs.Book.{Within, count_of, pattern, shortest, permits};
+ghost use Rattle.pattern.specs.Order.{order_in, ReadingOrder};
+ghost use Rattle.pattern.specs.Contents.{empty};
 
-use crate::table::Table;
+use crate::pattern_table::PatternTable;
+use crate::patterns::MAX_MASKS;
+use rules::{MatchKind, PatternID};
+use std::alloc::Global;
+use std::marker::Model;
 
-pub mod reads;
-
-/// A closed book, which searchers read: the total of its bytes, its shortest length, each id once in the longest order and
-/// each id in its place in order of entry, and the bounds.
+/// A closed book, which searchers read. A contract sees it as the book of the rules.
 #[derive(Drop)]
 pub struct Book {
-    pub(crate) table: Table,
-    ghost sound: { Sound table },
+    pub(crate) table: PatternTable,
+}
+
+impl Model for Book {
+    ghost use Rattle.rules.specs.Book.{Book as Entries};
+    ghost use Rattle.pattern.specs.Contents.{contents, Sound};
+
+    ghost Value = { Entries };
+
+    ghost view = { λ b. contents b.table };
+
+    ghost invariant = { λ b. Sound b.table };
+}
+
+impl Book {
+    /// A book without patterns, of the first kind.
+    pub fn empty(alloc: Global) -> Book
+        ensures { result ≡ empty }
+    {
+        Book {
+            table: PatternTable {
+                kind: MatchKind::LeftmostFirst,
+                by_id: Vec::new(alloc),
+                entered: Vec::new(alloc),
+                order: Vec::new(alloc),
+                minimum_len: usize::MAX,
+                total_pattern_bytes: 0,
+            },
+        }
+    }
+
+    /// How many patterns there are.
+    pub fn len(&self) -> usize
+        ensures value { result ≡ count_of self.now }
+        ensures within { Within self.now }
+    {
+        self.table.by_id.len()
+    }
+
+    /// Whether there is no pattern.
+    pub fn is_empty(&self) -> bool
+        ensures { IsTrue result ↔ (self.now.patterns ≡ []) }
+    {
+        self.table.by_id.is_empty()
+    }
+
+    /// The smallest length of a pattern; `usize::MAX` where there is none.
+    pub fn minimum_len(&self) -> usize
+        ensures value { result ≡ shortest self.now }
+        ensures within { Within self.now }
+    {
+        self.table.minimum_len
+    }
+
+    /// The kind, which chooses the order in which patterns are tried.
+    pub fn match_kind(&self) -> MatchKind
+        ensures { result ≡ self.now.kind }
+    {
+        self.table.kind
+    }
+
+    /// Whether a search with so many masks is permitted: at least one, at most `MAX_MASKS`, and no more than the shortest length.
+    pub fn permits(&self, masks: usize) -> bool
+        ensures { result ≡ permits self.now masks }
+    {
+        1 <= masks && masks <= MAX_MASKS && masks <= self.minimum_len()
+    }
+
+    /// Every id, in the order in which the kind has patterns tried: a preferred one before the others.
+    pub fn order(&self) -> &[PatternID]
+        ensures same { result.now ≡ order_in self.now }
+        ensures order { ReadingOrder self.now result.now }
+        ensures within { Within self.now }
+    {
+        match self.table.kind {
+            MatchKind::LeftmostFirst => self.table.entered.as_slice(),
+            MatchKind::LeftmostLongest => self.table.order.as_slice(),
+        }
+    }
+
+    /// The bytes of a pattern; no bytes for an id that the book lacks.
+    pub fn get(&self, id: PatternID) -> &[u8]
+        ensures { result.now ≡ pattern self.now id }
+    {
+        self.table.pattern(id)
+    }
 }

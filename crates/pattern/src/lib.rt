@@ -3,9 +3,8 @@
 #![tactic(auto)]
 
 mod book;
+mod pattern_table;
 mod patterns;
-mod table;
 
 pub use book::Book;
-pub use patterns::Patterns;
-pub use patterns::methods::{MAX_BYTES, MAX_MASKS, MAX_PATTERNS};
+pub use patterns::{MAX_BYTES, MAX_MASKS, MAX_PATTERNS, Patterns};

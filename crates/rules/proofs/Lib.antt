@@ -1,3 +1,4 @@
+mod Constants
 pub mod Rule
 pub mod Listings
 pub mod Enters

@@ -7,8 +7,8 @@
 -- state p          the ledger's state after the past p
 -- Covered b a t    the hits that an accepted text's list begins with cover the text
 -- ToldSo s es      what came back of each call is what the ledger tells, and the hits of an accepted text cover it
--- Model            what an intake holds
--- used_by m        how many texts it has accepted, which is what the limit of 65,535 bounds
+-- Holding          what an intake holds
+-- used_by m        how many texts it has accepted, which the greatest number of texts bounds
 -- tally_in m i     what a call for the tally of the pattern i answers
 -- Counted m t m'   m became m' as the text t was accepted: one text more, and each hit raised its tally
 -- Keeps s m        the intake m has what the ledger has in the state s
@@ -53,28 +53,28 @@ ToldSo s [] = Unit {0}
 ToldSo s (e ∷ es) = (e.told ≡ tells s e.asked) × Covered s.book e.asked e.told × ToldSo (adds s e.asked) es
 
 -- its searcher's book, the count of accepted texts, and the tallies by rising id
-pub record Model : Type 0 where
+pub record Holding : Type 0 where
   pub book : Book
   pub accepted : ℕ
   pub tallies : List ℕ
 
-abbrev pub used_by : Model → ℕ
+abbrev pub used_by : Holding → ℕ
 used_by m = m.accepted
 
-abbrev pub tally_in : Model → ℕ → Result ℕ Refusal
+abbrev pub tally_in : Holding → ℕ → Result ℕ Refusal
 tally_in m i = cond (nat_lt i (count_of m.book)) (Ok (slice_index m.tallies i)) (Err UnknownPattern)
 
-pub record Counted (m : Model) (t : List ℕ) (m' : Model) : Type 0 where
+pub record Counted (m : Holding) (t : List ℕ) (m' : Holding) : Type 0 where
   pub book : m'.book ≡ m.book
   pub count : m'.accepted ≡ m.accepted + 1
   pub tallies : (i : ℕ) → i < count_of m.book → slice_index m'.tallies i ≡ slice_index m.tallies i + hits_with i (listing m.book t)
 
-pub record Keeps (s : State) (m : Model) : Type 0 where
+pub record Keeps (s : State) (m : Holding) : Type 0 where
   pub book : m.book ≡ s.book
   pub count : m.accepted ≡ length s.texts
   pub tallies : (i : ℕ) → i < count_of s.book → slice_index m.tallies i ≡ hits_of s i
 
-pub record Served (p : Past) (m : Model) : Type 0 where
+pub record Served (p : Past) (m : Holding) : Type 0 where
   pub told : ToldSo (starts p.first) p.events
   pub keeps : Keeps (state p) m
   pub enters : (q t : List ℕ) (at : ℕ) → Entered m.book q t at

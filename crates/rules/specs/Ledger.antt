@@ -4,7 +4,7 @@
 -- State                the book, which no call changes, and the texts accepted so far
 -- starts b             the state at the making of an intake over the book b
 -- accepts s t          the state once the text t is accepted
--- used s               how many texts were accepted, which is what the limit of 65,535 bounds
+-- used s               how many texts were accepted, which the greatest number of texts bounds
 -- hits_of s i          how many hits of the pattern i the listings of all its texts have
 -- scan_answer b n t k  what a scan of t into a list of k hits answers once n texts count: the first refusal that is due, else the number of hits
 -- hits_after b t hs r  what the list hs holds after a scan of t that answered r
@@ -17,6 +17,7 @@ use Rattle.std.specs.Prelude.{ℕ, cond, List, [], ◌∷◌, ◌++◌, length, 
 use Rattle.rules.specs.declared.primitives.Match.{Match}
 use Rattle.rules.specs.declared.fault.Refusal.{Refusal}
 use Rattle.rules.specs.declared.fault.Refusal.TheVariants.{TextTooLong, TooManyTexts, HitsTooShort, UnknownPattern}
+use Rattle.rules.specs.Limits.{max_text, max_texts}
 use Rattle.rules.specs.Book.{Book, count_of}
 use Rattle.rules.specs.Search.{id_of}
 use Rattle.rules.specs.Listing.{listing}
@@ -43,8 +44,8 @@ hits_of s i = sum_by (λ t. hits_with i (listing s.book t)) s.texts
 
 abbrev pub scan_answer : Book → ℕ → List ℕ → ℕ → Result ℕ Refusal
 scan_answer b n t k =
-    cond (nat_lt 65536 (length t)) (Err TextTooLong)
-    (cond (nat_le 65535 n) (Err TooManyTexts)
+    cond (nat_lt max_text (length t)) (Err TextTooLong)
+    (cond (nat_le max_texts n) (Err TooManyTexts)
     (cond (nat_lt k (length (listing b t))) (Err HitsTooShort) (Ok (length (listing b t)))))
 
 -- the listing in front, its old entries after it; a refusal leaves it

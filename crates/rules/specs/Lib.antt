@@ -1,5 +1,4 @@
 pub mod Limits
-pub mod Index
 pub mod Refusals
 pub mod Book
 pub mod Search

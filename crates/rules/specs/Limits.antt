@@ -9,6 +9,7 @@
 -- max_body        the greatest length that a record can announce, in its two bytes
 -- hash_buckets    how many buckets the rolling hash has
 -- mask_buckets    how many buckets the masks have, a bit each
+-- greatest_index  the greatest number that an id can have: 2^31 - 2
 use Rattle.std.specs.Prelude.{ℕ}
 
 abbrev pub max_patterns : ℕ
@@ -40,3 +41,6 @@ hash_buckets = 64
 
 abbrev pub mask_buckets : ℕ
 mask_buckets = 8
+
+abbrev pub greatest_index : ℕ
+greatest_index = 2147483646

@@ -1,6 +1,6 @@
--- number r   the number by which a refusal is reported
--- layer r    the layer that refused: 1 the book, 2 the intake, 3 the job
--- line f     the line that reports a fault
+-- number r       the number by which a refusal is reported
+-- layer r        the layer that refused: 1 the book, 2 the intake, 3 the job
+-- fault_line f   the line that reports a fault
 -- Want of memory has the number 0 and the layer 0.
 use Rattle.std.specs.Prelude.{ℕ, List, ◌++◌, codes, decimal}
 use Rattle.rules.specs.declared.fault.Fault.{Fault}
@@ -41,5 +41,5 @@ layer KindLength = 3
 layer AfterText = 3
 layer Memory = 0
 
-abbrev pub line : Fault → List ℕ
-line f = codes "fault " ++ (decimal (number f.refusal) ++ (codes " " ++ (decimal f.place ++ (codes " " ++ decimal (layer f.refusal)))))
+abbrev pub fault_line : Fault → List ℕ
+fault_line f = codes "fault " ++ (decimal (number f.refusal) ++ (codes " " ++ (decimal f.place ++ (codes " " ++ decimal (layer f.refusal)))))

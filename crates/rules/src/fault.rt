@@ -1,6 +1,6 @@
 ghost use Rattle.std.specs.Prelude.{◌≡◌, Some};
 ghost use Rattle.rules.specs.declared.fault.Refusal.TheVariants.{Memory};
-ghost use Rattle.rules.specs.Refusals.{number, layer, line};
+ghost use Rattle.rules.specs.Refusals.{number, layer, fault_line};
 ghost use Rattle.rules.specs.Faults.{refused};
 
 use std::alloc::{AllocError, AllocFailed};
@@ -107,7 +107,7 @@ impl<T: Drop> From<AllocFailed<T>> for Fault {
 }
 
 impl fmt::Display for Fault {
-    ghost output = { λ f. Some (line f) };
+    ghost output = { λ f. Some (fault_line f) };
 
     fn fmt<W: fmt::Write>(&self, f: &mut fmt::Formatter<W>) -> fmt::Result {
         let number = self.refusal.number();

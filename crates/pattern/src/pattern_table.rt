@@ -1,4 +1,5 @@
 ghost use Rattle.std.specs.Prelude.{◌≡◌, ◌+◌, ◌<◌, ◌≤◌, length, MatchResult};
+ghost use Rattle.rules.specs.Limits.{max_patterns, max_bytes};
 ghost use Rattle.rules.specs.Book.{count_of, pattern, total};
 ghost use Rattle.rules.specs.Entered.{enter};
 ghost use Rattle.pattern.specs.Contents.{contents, Sound};
@@ -8,7 +9,7 @@ use std::alloc::{AllocError, Global};
 
 /// The patterns by id, the ids in both orders, and what is kept of them.
 #[derive(Drop)]
-pub struct Table {
+pub struct PatternTable {
     pub(crate) kind: MatchKind,
     pub(crate) by_id: Vec<Vec<u8>>,
     /// The ids in order of entry, 0, 1, 2, ..: a list of them, since the order is lent as a slice.
@@ -20,8 +21,7 @@ pub struct Table {
     pub(crate) total_pattern_bytes: usize,
 }
 
-impl Table {
-    // A call of the inner table changes the book: a rule of the project.
+impl PatternTable {
     pub(crate) fn set_kind(&mut self, kind: MatchKind)
         ensures { self.new ≡ record self.old { kind = kind } }
     {
@@ -29,11 +29,11 @@ impl Table {
     }
 
     /// Enters a pattern that is within the bounds. Want of memory alters nothing.
-    pub(crate) fn enter(&mut self, heap: Global, bytes: &[u8]) -> Result<PatternID, AllocError>
+    pub(crate) fn enter(&mut self, alloc: Global, bytes: &[u8]) -> Result<PatternID, AllocError>
         requires sound { Sound self.old }
         requires filled { 0 < length bytes.now }
-        requires few { count_of (contents self.old) < 1024 }
-        requires within { total (contents self.old) + length bytes.now ≤ 16384 }
+        requires few { count_of (contents self.old) < max_patterns }
+        requires within { total (contents self.old) + length bytes.now ≤ max_bytes }
         ensures sound { Sound self.new }
         ensures cases { MatchResult result (λ new. (new ≡ count_of (contents self.old)) × (contents self.new ≡ enter (contents self.old) bytes.now)) (λ _. contents self.new ≡ contents self.old) }
     {
@@ -42,7 +42,7 @@ impl Table {
             .order
             .partition_point(|id| bytes.len() <= self.pattern(*id).len());
         let id = PatternID::from(self.by_id.len() as u16);
-        let kept = Vec::from_slice(heap, bytes)?;
+        let kept = Vec::from_slice(alloc, bytes)?;
         self.by_id.try_reserve(1)?;
         self.entered.try_reserve(1)?;
         self.order.insert(at, id)?;

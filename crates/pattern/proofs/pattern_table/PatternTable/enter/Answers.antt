@@ -5,8 +5,8 @@ use Rattle.std.proofs.lemmas.List.Sorted.{IsPartitionPoint-from_clause}
 use Rattle.rules.specs.Book.{Book, count_of, size}
 use Rattle.rules.specs.Entered.{enter}
 use Rattle.pattern.specs.Contents.{contents, longest, entries}
-use Rattle.pattern.proofs.Entering.{parted, entered_sound}
-use Rattle.pattern.proofs.table.Table.enter.Goals as goal
+use Rattle.pattern.proofs.Tables.{parted, entered_sound}
+use Rattle.pattern.proofs.pattern_table.PatternTable.enter.Goals as goal
 
 pub returns-clause-sound : goal.returns-clause-sound
 returns-clause-sound c =
