@@ -1,7 +1,6 @@
 ghost use Rattle.std.specs.Prelude.{MatchBool};
 ghost use Rattle.rules.specs.Search.{Stands};
 ghost use Rattle.rules.specs.Places.{Verified};
-ghost use Rattle.pattern.specs.Closed.{book_of};
 
 use pattern::Book;
 use rules::{Match, PatternID};
@@ -13,7 +12,6 @@ pub fn stands(pattern: &[u8], text: &[u8], start: usize) -> bool
     if start > text.len() || text.len() - start < pattern.len() {
         return false;
     }
-    // A loop over the pattern's bytes, where `starts_with` would do: a rule of the project.
     for (k, b) in pattern.iter().enumerate() {
         if text[start + k] != *b {
             return false;
@@ -24,7 +22,7 @@ pub fn stands(pattern: &[u8], text: &[u8], start: usize) -> bool
 
 /// The match of a pattern at a place, if it occurs there. An id that the book lacks occurs nowhere.
 pub fn verify(book: &Book, id: PatternID, text: &[u8], start: usize) -> Option<Match>
-    ensures { Verified (book_of book.now) id text.now start result }
+    ensures { Verified book.now id text.now start result }
 {
     let pattern = book.get(id);
     // For an id that the book lacks the bytes are none, and an empty pattern stands at every place of the text: so the id is tested

@@ -1,10 +1,70 @@
-use pattern::Book;
-use std::rc::Rc;
+ghost use Rattle.std.specs.Prelude.{◌≡◌};
+ghost use Rattle.rules.specs.Book.{Within};
+ghost use Rattle.rules.specs.Places.{AnswersAt};
 
-pub mod find;
+use crate::compare::verify;
+use crate::finder::Finder;
+use crate::searcher::Searcher;
+use pattern::{Book, MAX_PATTERNS};
+use rules::Match;
+use std::rc::Rc;
 
 /// The searcher that tries each place and each pattern in order.
 #[derive(Drop)]
 pub struct Plain {
     book: Rc<Book>,
+    ghost within: { Within book.value },
+}
+
+impl Plain {
+    /// A searcher over a closed book.
+    pub fn new(book: Rc<Book>) -> Plain
+        ensures { ⟦<Plain as Finder>⟧.book result ≡ book.value }
+    {
+        // A closed book is within the bounds.
+        prove!(book.len() <= MAX_PATTERNS);
+        Plain { book }
+    }
+}
+
+/// The match at one place: that of the first pattern, in the kind's order, which stands there.
+fn find_here(book: &Book, text: &[u8], start: usize) -> Option<Match>
+    ensures { AnswersAt book.now text.now start result }
+{
+    let order = book.order();
+    // By the index of the order table: all ids below it were tried in vain.
+    for i in 0..order.len() {
+        if let Some(hit) = verify(book, order[i], text, start) {
+            return Some(hit);
+        }
+    }
+    None
+}
+
+impl Finder for Plain {
+    ghost book = { λ x. x.book.value };
+
+    ghost within = { λ x. x.within };
+
+    fn pattern_count(&self) -> usize {
+        self.book.len()
+    }
+
+    /// Tries place after place.
+    fn find(&self, text: &[u8], at: usize) -> Option<Match> {
+        for start in at..text.len() {
+            if let Some(hit) = find_here(&self.book, text, start) {
+                return Some(hit);
+            }
+        }
+        None
+    }
+}
+
+impl Searcher for Plain {
+    type Setting = ();
+
+    fn over(closed: Rc<Book>, _setting: ()) -> Plain {
+        Plain::new(closed)
+    }
 }

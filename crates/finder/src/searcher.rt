@@ -1,5 +1,4 @@
 ghost use Rattle.std.specs.Prelude.{◌≡◌};
-ghost use Rattle.pattern.specs.Closed.{book_of};
 
 use crate::finder::Finder;
 use pattern::Book;
@@ -13,5 +12,5 @@ pub trait Searcher: Finder {
 
     /// A searcher over a closed book.
     fn over(closed: Rc<Book>, setting: Self::Setting) -> Self
-        ensures { Self.book result ≡ book_of closed.value };
+        ensures { Self.book result ≡ closed.value };
 }
