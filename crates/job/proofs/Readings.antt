@@ -4,7 +4,7 @@ use Rattle.std.proofs.lemmas.Bool.{cases_lt}
 use Rattle.rules.specs.declared.fault.Refusal.{Refusal}
 use Rattle.rules.specs.Faults.{refused}
 use Rattle.job.specs.Format.{Entry, Step, over, bad, good, step}
-use Rattle.job.specs.Records.{Reading, item, ends, put, reading_from, reading}
+use Rattle.job.specs.Reading.{Reading, item, ends, put, reading_from, reading}
 use Rattle.job.proofs.Steps.{step_over, step_next}
 
 module _ (job : List ℕ) where

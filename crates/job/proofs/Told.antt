@@ -5,8 +5,8 @@ use Rattle.job.specs.declared.record.Placed.{Placed}
 use Rattle.job.specs.declared.record.Record.{Record}
 use Rattle.job.specs.declared.record.Record.TheVariants.{Pattern, First, Longest, Text}
 use Rattle.job.specs.Format.{over, bad, good, step}
-use Rattle.job.specs.Reading.{entry, as_step, place_in}
-use Rattle.job.specs.Opening.{is_text}
+use Rattle.job.specs.Record.{entry, as_step, place_in}
+use Rattle.job.specs.Texts.{is_text}
 
 module _ (job held : List ℕ) (at next : ℕ) (same : held ≡ job) where
   pub told_some : (o : Option Placed) (p : Placed) → as_step (Ok o) next ≡ step held at → o ≡ Some p → step job at ≡ good (entry p.«record») next

@@ -2,11 +2,11 @@
 use Rattle.std.proofs.Common.{◌≡◌, ℕ, ◌+◌, ◌*◌, ◌/◌, ◌%◌, ◌<◌, List, [], ◌∷◌, ◌++◌, length, get_or, take, drop, Some, None, Ok, Option, sym, refl, ap, ◌∙◌, subst, append_assoc, add-zero, zero-add, arith, length-append}
 use native.Mathlib.Nat.{mod-add-div}
 use Rattle.std.proofs.lemmas.List.{get_or-append-add, get_or_append_left, take_at, drop_at}
-use Rattle.job.specs.Format.{Entry, pattern, first, longest, text, good, size_at, body_at, made_of, settled, step}
+use Rattle.job.specs.Format.{Entry, a_pattern, kind_first, kind_longest, a_text, good, mark, mark_at, size_at, body_at, made_of, step_of, step}
 use Rattle.rules.specs.declared.fault.Fault.{Fault}
 use Rattle.rules.specs.Faults.{refused}
-use Rattle.job.specs.Records.{item, ends, put, reading}
-use Rattle.job.specs.Written.{body, mark, written, job_of, items_of, Stopped}
+use Rattle.job.specs.Reading.{item, ends, put, reading}
+use Rattle.job.specs.Written.{body, written, job_of, items_of, Stopped}
 use Rattle.job.proofs.Steps.{step_whole, bad_there}
 use Rattle.job.proofs.Readings.{reading_good, reading_bad, reading_over}
 
@@ -16,23 +16,29 @@ front e rest = mark e ++ (length (body e) % 256 ∷ (length (body e) / 256 ∷ (
 
 written_front : (e : Entry) (rest : List ℕ) → written e ++ rest ≡ front e rest
 unfolding front
-written_front (pattern p) rest = refl
-written_front first rest = refl
-written_front longest rest = refl
-written_front (text t) rest = refl
+written_front (a_pattern p) rest = refl
+written_front kind_first rest = refl
+written_front kind_longest rest = refl
+written_front (a_text t) rest = refl
 
 -- a mark and its record's bytes make the record
-made : (e : Entry) → made_of (get_or (mark e) 0 0) (get_or (mark e) 1 0) (body e) ≡ Ok e
-made (pattern p) = refl
-made first = refl
-made longest = refl
-made (text t) = refl
+made : (e : Entry) → made_of (mark e) (body e) ≡ Ok e
+made (a_pattern p) = refl
+made kind_first = refl
+made kind_longest = refl
+made (a_text t) = refl
 
 mark_long : (e : Entry) → length (mark e) ≡ 2
-mark_long (pattern p) = refl
-mark_long first = refl
-mark_long longest = refl
-mark_long (text t) = refl
+mark_long (a_pattern p) = refl
+mark_long kind_first = refl
+mark_long kind_longest = refl
+mark_long (a_text t) = refl
+
+mark_bytes : (e : Entry) → get_or (mark e) 0 0 ∷ get_or (mark e) 1 0 ∷ [] ≡ mark e
+mark_bytes (a_pattern p) = refl
+mark_bytes kind_first = refl
+mark_bytes kind_longest = refl
+mark_bytes (a_text t) = refl
 
 module _ (pre : List ℕ) (e : Entry) (rest : List ℕ) where
   abbrev at : ℕ
@@ -51,6 +57,9 @@ module _ (pre : List ℕ) (e : Entry) (rest : List ℕ) where
 
   first_byte : get_or whole at 0 ≡ get_or (mark e) 0 0
   first_byte = ap (λ n. get_or whole n 0) (sym (add-zero at)) ∙ marked 0 (omega arith)
+
+  mark_is : mark_at whole at ≡ mark e
+  mark_is = (λ i. first_byte i ∷ (marked 1 (omega arith) i ∷ [])) ∙ mark_bytes e
 
   size_is : size_at whole at ≡ length (body e)
   unfolding front
@@ -83,8 +92,8 @@ module _ (pre : List ℕ) (e : Entry) (rest : List ℕ) where
   step_written : step whole at ≡ good e (at + 4 + length (body e))
   step_written =
       step_whole whole at (omega (arith, size_is, long))
-      ∙ (λ i. settled (made_of (first_byte i) (marked 1 (omega arith) i) (taken i)) (at + 4 + size_is i))
-      ∙ ap (λ r. settled r (at + 4 + length (body e))) (made e)
+      ∙ (λ i. step_of (made_of (mark_is i) (taken i)) (at + 4 + size_is i))
+      ∙ ap (λ r. step_of r (at + 4 + length (body e))) (made e)
     where
       taken : body_at whole (length pre) ≡ body e
       taken = (λ i. take (size_is i) (behind i)) ∙ take_at (body e) rest (length (body e)) refl

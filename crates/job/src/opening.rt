@@ -1,10 +1,12 @@
-ghost use Rattle.std.specs.Prelude.{◌≡◌, length, Ok, MatchResult};
+ghost use Rattle.std.specs.Prelude.{◌≡◌, length, Ok, OnOk, IfOk, IfErr};
 ghost use Rattle.pattern.specs.Closed.{book_of};
 ghost use Rattle.pattern.specs.Contents.{empty};
 ghost use Rattle.pattern.specs.Entering.{open_of};
-ghost use Rattle.job.specs.Records.{reading};
-ghost use Rattle.job.specs.Opening.{heading, texts, texts_at, takes, closes, opening, opened, MemoryFaultAt, MemoryFaultAmong, MemoryFault, Refuses};
-ghost use Rattle.job.specs.Reading.{entry};
+ghost use Rattle.job.specs.Record.{entry};
+ghost use Rattle.job.specs.Reading.{reading};
+ghost use Rattle.job.specs.Texts.{heading, texts, texts_at};
+ghost use Rattle.job.specs.Opening.{takes, closes, opening, opened};
+ghost use Rattle.job.specs.Memory.{MemoryFaultAt, MemoryFaultAmong, MemoryFault, Refuses};
 
 use crate::reader::Reader;
 use crate::record::Record;
@@ -26,7 +28,8 @@ struct Filled {
 /// A record before the texts.
 #[tactic(auto, using(crate::proofs::Openings::lacks_or))]
 fn take(patterns: &mut Patterns, place: usize, it: Record<'_>) -> Result<(), Fault>
-    ensures { MatchResult result (λ _. takes (open_of patterns.old) place (entry it.entry) ≡ Ok (open_of patterns.new)) (Refuses (takes (open_of patterns.old) place (entry it.entry)) (MemoryFaultAt (open_of patterns.old) place (entry it.entry))) }
+    ensures ok { OnOk result (takes (open_of patterns.old) place (entry it.entry) ≡ Ok (open_of patterns.new)) }
+    ensures err { IfErr result (Refuses (takes (open_of patterns.old) place (entry it.entry)) (MemoryFaultAt (open_of patterns.old) place (entry it.entry))) }
 {
     match it {
         Record::Pattern(bytes) => {
@@ -40,10 +43,13 @@ fn take(patterns: &mut Patterns, place: usize, it: Record<'_>) -> Result<(), Fau
 }
 
 /// Enters the records up to the first text.
-fn fill(heap: Global, job: &[u8]) -> Result<Filled, Fault>
-    ensures { MatchResult result (λ f. (opening empty (reading job.now 0) (length job.now) ≡ closes (open_of f.patterns) f.at) × (reading job.now f.at ≡ texts (reading job.now 0)) × (f.at ≡ texts_at (texts (reading job.now 0)).items (length job.now))) (Refuses (opening empty (reading job.now 0) (length job.now)) (MemoryFaultAmong empty (heading (reading job.now 0).items))) }
+fn fill(alloc: Global, job: &[u8]) -> Result<Filled, Fault>
+    ensures book { IfOk result (λ f. opening empty (reading job.now 0) (length job.now) ≡ closes (open_of f.patterns) f.at) }
+    ensures left { IfOk result (λ f. reading job.now f.at ≡ texts (reading job.now 0)) }
+    ensures at { IfOk result (λ f. f.at ≡ texts_at job.now) }
+    ensures err { IfErr result (Refuses (opening empty (reading job.now 0) (length job.now)) (MemoryFaultAmong empty (heading (reading job.now 0).items))) }
 {
-    let mut patterns = Patterns::new(heap);
+    let mut patterns = Patterns::new(alloc);
     let mut reader = Reader::new(job);
     // No `for`: a fault leaves the reader where it is, so that as an iterator it would not end.
     while let Some(placed) = reader.next()? {
@@ -70,13 +76,17 @@ pub struct Opened<'a> {
 
 /// Reads a job up to its first text, and closes its book there, or else at the job's end. It answers the first fault up to there,
 /// or want of memory for a pattern that would have been entered.
-pub fn open<'a>(heap: Global, job: &'a [u8]) -> Result<Opened<'a>, Fault>
-    ensures { MatchResult result (λ o. (opened job.now ≡ Ok (book_of o.book)) × (o.texts.job.now ≡ job.now) × (reading job.now o.texts.at ≡ texts (reading job.now 0)) × (o.texts.at ≡ texts_at (texts (reading job.now 0)).items (length job.now))) (Refuses (opened job.now) (MemoryFault job.now)) }
+pub fn open<'a>(alloc: Global, job: &'a [u8]) -> Result<Opened<'a>, Fault>
+    ensures book { IfOk result (λ o. opened job.now ≡ Ok (book_of o.book)) }
+    ensures job { IfOk result (λ o. o.texts.job.now ≡ job.now) }
+    ensures left { IfOk result (λ o. reading job.now o.texts.at ≡ texts (reading job.now 0)) }
+    ensures at { IfOk result (λ o. o.texts.at ≡ texts_at job.now) }
+    ensures err { IfErr result (Refuses (opened job.now) (MemoryFault job.now)) }
 {
     if job.len() > MAX_JOB {
         return Err(Refusal::JobTooLong.at(0));
     }
-    let filled = fill(heap, job)?;
+    let filled = fill(alloc, job)?;
     let Filled { patterns, at } = filled;
     patterns.check_at(at, patterns.minimum_len().min(MAX_MASKS))?;
     Ok(Opened {

@@ -1,12 +1,12 @@
 ghost use Rattle.std.specs.Prelude.{◌≡◌, OnErr};
-ghost use Rattle.job.specs.Format.{step, made_of, bare};
-ghost use Rattle.job.specs.Reading.{as_step, place_in, entry, entries};
+ghost use Rattle.job.specs.Format.{step, made_of, empty_kind};
+ghost use Rattle.job.specs.Record.{as_step, place_in, entry, entries};
 
 use crate::record::{Placed, Record};
 use rules::{Fault, Refusal};
 
 /// A job and the place of the next record, which a fault names.
-#[derive(Drop)]
+#[derive(Clone, Debug, Drop)]
 pub struct Reader<'a> {
     pub job: &'a [u8],
     pub at: usize,
@@ -15,7 +15,8 @@ pub struct Reader<'a> {
 impl<'a> Reader<'a> {
     /// A reader at a job's start.
     pub fn new(job: &'a [u8]) -> Reader<'a>
-        ensures { (result.job.now ≡ job.now) × (result.at ≡ 0) }
+        ensures job { result.job.now ≡ job.now }
+        ensures at { result.at ≡ 0 }
     {
         Reader { job, at: 0 }
     }
@@ -40,8 +41,7 @@ impl<'a> Reader<'a> {
         let Some(body) = rest.get(..size) else {
             return Err(truncated);
         };
-        // By `map_err` and `?` the proof of the fault stays open.
-        match record_of(*x, *y, body) {
+        match record_of([*x, *y], body) {
             Ok(record) => {
                 self.at = at + 4 + size;
                 Ok(Some(Placed { record, place: at }))
@@ -52,23 +52,22 @@ impl<'a> Reader<'a> {
 }
 
 /// The record that a mark and the bytes behind its length make.
-fn record_of<'a>(x: u8, y: u8, body: &'a [u8]) -> Result<Record<'a>, Refusal>
-    ensures { entries result ≡ made_of x y body.now }
+fn record_of<'a>(mark: [u8; 2], body: &'a [u8]) -> Result<Record<'a>, Refusal>
+    ensures { entries result ≡ made_of mark body.now }
 {
-    match (x, y) {
-        (b'P', b'N') => Ok(Record::Pattern(body)),
-        (b'K', b'F') => bare(Record::First, body),
-        (b'K', b'L') => bare(Record::Longest, body),
-        (b'T', b'X') => Ok(Record::Text(body)),
+    match &mark {
+        b"PN" => Ok(Record::Pattern(body)),
+        b"KF" => empty_kind(Record::First, body),
+        b"KL" => empty_kind(Record::Longest, body),
+        b"TX" => Ok(Record::Text(body)),
         _ => Err(Refusal::UnknownMark),
     }
 }
 
 /// A kind record, which has no bytes.
-fn bare<'a>(kind: Record<'a>, body: &[u8]) -> Result<Record<'a>, Refusal>
-    ensures { entries result ≡ bare (entry kind.entry) body.now }
+fn empty_kind<'a>(kind: Record<'a>, body: &[u8]) -> Result<Record<'a>, Refusal>
+    ensures { entries result ≡ empty_kind (entry kind.entry) body.now }
 {
-    // `then_some` and `ok_or` would be no plainer.
     if body.is_empty() {
         Ok(kind)
     } else {

@@ -1,14 +1,13 @@
-use Rattle.std.proofs.Common.{◌≡◌, length, Err, sym, ap, ◌∙◌, subst, inl, arith}
+use Rattle.std.proofs.Common.{◌≡◌, Err, sym, ap, ◌∙◌, subst, inl, arith}
 use Rattle.std.proofs.lemmas.Result.{err_from_is_err_and}
-use Rattle.pattern.specs.Contents.{empty}
 use Rattle.pattern.specs.Entering.{open_of}
 use Rattle.rules.specs.Faults.{refused}
 use Rattle.job.specs.Format.{good, step}
-use Rattle.job.specs.Reading.{entry}
-use Rattle.job.specs.Records.{reading}
-use Rattle.job.specs.Opening.{texts, texts_at, takes, closes, opening, MemoryFaultAt, Refuses}
+use Rattle.job.specs.Record.{entry}
+use Rattle.job.specs.Opening.{takes}
+use Rattle.job.specs.Memory.{MemoryFaultAt, Refuses}
 use Rattle.job.proofs.Steps.{step_next}
-use Rattle.job.proofs.Openings.{fill_text, fill_again, fill_fault, fill_bad, fill_over}
+use Rattle.job.proofs.Openings.{AllFilled, fill_text, fill_again, fill_fault, fill_bad, fill_over}
 use Rattle.job.proofs.Told.{told_some, told_none, told_bad, placed_some, no_text}
 use Rattle.job.proofs.opening.fill.Goals as goal
 use Rattle.job.proofs.opening.fill.Goals.{In-Some}
@@ -21,25 +20,24 @@ stepped c =
 there : (c : In-Some) → c.in-Some.placed.place ≡ c.loop-patterns.reader.at
 there c = placed_some c.loop-patterns.reader.at c.in_ok-placed.field-0 c.in-Some.placed c.in_ok-placed.ensures.place c.in-Some.is
 
-pub returns-in_err-placed : goal.returns-in_err-placed
-returns-in_err-placed c =
+pub returns-in_err-placed-clause-err : goal.returns-in_err-placed-clause-err
+returns-in_err-placed-clause-err c =
     let p = err_from_is_err_and c.from_residual.result c.from_residual.ensures.1 in
     let i = c.loop-patterns.invariant in
     let at = c.loop-patterns.reader.at in
     let h = c.in_err-placed.ensures in
     let f = c.in_err-placed.field-0.0 in
     rw (p.1, p.2)
-    (inl (fill_bad c.args.job.now (open_of c.loop-patterns.patterns) at i.2 i.3 i.4 f.refusal i.1 (told_bad c.args.job.now _ at c.next.new.self.at i.0 f h.step) ∙ ap (λ n. Err (refused n f.refusal)) (sym h.place)))
+    (inl (fill_bad c.args.job.now (open_of c.loop-patterns.patterns) at i.1 f.refusal (told_bad c.args.job.now _ at c.next.new.self.at i.0 f h.step) ∙ ap (λ n. Err (refused n f.refusal)) (sym h.place)))
 
 pub returns-in-Text : goal.returns-in-Text
 returns-in-Text c =
-    let i = c.loop-patterns.invariant in
     let at = c.loop-patterns.reader.at in
     let a = (goal.at.returns-in-Text c).In-Some in
     let b = open_of c.loop-patterns.patterns in
     let job = c.args.job.now in
-    subst (λ n. (opening empty (reading job 0) (length job) ≡ closes b n) × (reading job n ≡ texts (reading job 0)) × (n ≡ texts_at (texts (reading job 0)).items (length job))) (sym (there a))
-    (fill_text job b at i.2 i.3 i.4 c.in-Text.field-0.now c.next.new.self.at (stepped a ∙ ap (λ r. good (entry r) c.next.new.self.at) c.in-Text.is))
+    let f = subst (AllFilled job b) (sym (there a)) (fill_text job b at c.loop-patterns.invariant.1 c.in-Text.field-0.now c.next.new.self.at (stepped a ∙ ap (λ r. good (entry r) c.next.new.self.at) c.in-Text.is)) in
+    record { book = f.book; left = f.left; at = f.place; err = tt }
 
 pub loop-patterns-smaller : goal.loop-patterns-smaller
 loop-patterns-smaller c =
@@ -52,26 +50,24 @@ loop-patterns-preserved c =
     let at = c.loop-patterns.reader.at in
     let a = (goal.at.loop-patterns-preserved c).In-Some in
     let b = open_of c.loop-patterns.patterns in
-    let job = c.args.job.now in
     let e = entry c.in-Some.placed.«record» in
-    let took = ap (λ n. takes b n e) (sym (there a)) ∙ c.in_ok-take.ensures in
-    let again = fill_again job b at i.2 i.3 i.4 (open_of c.take.new.patterns) e c.next.new.self.at (stepped a) (no_text c.in-Some.placed.«record» c.in_default-record.not-Text) took in
-    (c.in_ok-placed.ensures.job ∙ i.0, (step_next job at c.next.new.self.at e (stepped a)).1, again.0, again.1, again.2)
+    let took = ap (λ n. takes b n e) (sym (there a)) ∙ c.in_ok-take.ensures.ok in
+    (c.in_ok-placed.ensures.job ∙ i.0, fill_again c.args.job.now b at i.1 (open_of c.take.new.patterns) e c.next.new.self.at (stepped a) (no_text c.in-Some.placed.«record» c.in_default-record.not-Text) took)
 
-pub returns-in_err-take : goal.returns-in_err-take
-returns-in_err-take c =
+pub returns-in_err-take-clause-err : goal.returns-in_err-take-clause-err
+returns-in_err-take-clause-err c =
     let p = err_from_is_err_and c.from_residual-in_err-take.result c.from_residual-in_err-take.ensures.1 in
-    let i = c.loop-patterns.invariant in
     let at = c.loop-patterns.reader.at in
-    let a = (goal.at.returns-in_err-take c).In-Some in
+    let a = (goal.at.returns-in_err-take-clause-err c).In-Some in
     let b = open_of c.loop-patterns.patterns in
     let e = entry c.in-Some.placed.«record» in
     let f = c.in_err-take.field-0.0 in
     rw (p.1, p.2)
-    (fill_fault c.args.job.now b at i.2 i.3 i.4 e c.next.new.self.at f (stepped a) (no_text c.in-Some.placed.«record» c.in_default-record.not-Text) (subst (λ n. Refuses (takes b n e) (MemoryFaultAt b n e) f) (there a) c.in_err-take.ensures))
+    (fill_fault c.args.job.now b at c.loop-patterns.invariant.1 e c.next.new.self.at f (stepped a) (no_text c.in-Some.placed.«record» c.in_default-record.not-Text) (subst (λ n. Refuses (takes b n e) (MemoryFaultAt b n e) f) (there a) c.in_err-take.ensures.err))
 
 pub returns : goal.returns
 returns c =
     let i = c.loop-patterns.invariant in
     let at = c.loop-patterns.reader.at in
-    fill_over c.args.job.now (open_of c.loop-patterns.patterns) at i.2 i.3 i.4 (told_none c.args.job.now _ at c.next.new.self.at i.0 c.in_ok-placed.field-0 c.in_ok-placed.ensures.step c.in_default.is)
+    let f = fill_over c.args.job.now (open_of c.loop-patterns.patterns) at i.1 (told_none c.args.job.now _ at c.next.new.self.at i.0 c.in_ok-placed.field-0 c.in_ok-placed.ensures.step c.in_default.is) in
+    record { book = f.book; left = f.left; at = f.place; err = tt }
