@@ -1,7 +1,5 @@
 ghost use Rattle.std.specs.Prelude.{◌≡◌, length, Ok, OnOk, IfOk, IfErr};
-ghost use Rattle.pattern.specs.Closed.{book_of};
 ghost use Rattle.pattern.specs.Contents.{empty};
-ghost use Rattle.pattern.specs.Entering.{open_of};
 ghost use Rattle.job.specs.Record.{entry};
 ghost use Rattle.job.specs.Reading.{reading};
 ghost use Rattle.job.specs.Texts.{heading, texts, texts_at};
@@ -28,8 +26,8 @@ struct Filled {
 /// A record before the texts.
 #[tactic(auto, using(crate::proofs::Openings::lacks_or))]
 fn take(patterns: &mut Patterns, place: usize, it: Record<'_>) -> Result<(), Fault>
-    ensures ok { OnOk result (takes (open_of patterns.old) place (entry it.entry) ≡ Ok (open_of patterns.new)) }
-    ensures err { IfErr result (Refuses (takes (open_of patterns.old) place (entry it.entry)) (MemoryFaultAt (open_of patterns.old) place (entry it.entry))) }
+    ensures ok { OnOk result (takes patterns.old place (entry it.entry) ≡ Ok patterns.new) }
+    ensures err { IfErr result (Refuses (takes patterns.old place (entry it.entry)) (MemoryFaultAt patterns.old place (entry it.entry))) }
 {
     match it {
         Record::Pattern(bytes) => {
@@ -44,7 +42,7 @@ fn take(patterns: &mut Patterns, place: usize, it: Record<'_>) -> Result<(), Fau
 
 /// Enters the records up to the first text.
 fn fill(alloc: Global, job: &[u8]) -> Result<Filled, Fault>
-    ensures book { IfOk result (λ f. opening empty (reading job.now 0) (length job.now) ≡ closes (open_of f.patterns) f.at) }
+    ensures book { IfOk result (λ f. opening empty (reading job.now 0) (length job.now) ≡ closes f.patterns f.at) }
     ensures left { IfOk result (λ f. reading job.now f.at ≡ texts (reading job.now 0)) }
     ensures at { IfOk result (λ f. f.at ≡ texts_at job.now) }
     ensures err { IfErr result (Refuses (opening empty (reading job.now 0) (length job.now)) (MemoryFaultAmong empty (heading (reading job.now 0).items))) }
@@ -77,7 +75,7 @@ pub struct Opened<'a> {
 /// Reads a job up to its first text, and closes its book there, or else at the job's end. It answers the first fault up to there,
 /// or want of memory for a pattern that would have been entered.
 pub fn open<'a>(alloc: Global, job: &'a [u8]) -> Result<Opened<'a>, Fault>
-    ensures book { IfOk result (λ o. opened job.now ≡ Ok (book_of o.book)) }
+    ensures book { IfOk result (λ o. opened job.now ≡ Ok o.book) }
     ensures job { IfOk result (λ o. o.texts.job.now ≡ job.now) }
     ensures left { IfOk result (λ o. reading job.now o.texts.at ≡ texts (reading job.now 0)) }
     ensures at { IfOk result (λ o. o.texts.at ≡ texts_at job.now) }

@@ -1,6 +1,5 @@
 use Rattle.std.proofs.Common.{◌≡◌, Err, sym, ap, ◌∙◌, subst, inl, arith}
 use Rattle.std.proofs.lemmas.Result.{err_from_is_err_and}
-use Rattle.pattern.specs.Entering.{open_of}
 use Rattle.rules.specs.Faults.{refused}
 use Rattle.job.specs.Format.{good, step}
 use Rattle.job.specs.Record.{entry}
@@ -28,13 +27,13 @@ returns-in_err-placed-clause-err c =
     let h = c.in_err-placed.ensures in
     let f = c.in_err-placed.field-0.0 in
     rw (p.1, p.2)
-    (inl (fill_bad c.args.job.now (open_of c.loop-patterns.patterns) at i.1 f.refusal (told_bad c.args.job.now _ at c.next.new.self.at i.0 f h.step) ∙ ap (λ n. Err (refused n f.refusal)) (sym h.place)))
+    (inl (fill_bad c.args.job.now c.loop-patterns.patterns at i.1 f.refusal (told_bad c.args.job.now _ at c.next.new.self.at i.0 f h.step) ∙ ap (λ n. Err (refused n f.refusal)) (sym h.place)))
 
 pub returns-in-Text : goal.returns-in-Text
 returns-in-Text c =
     let at = c.loop-patterns.reader.at in
     let a = (goal.at.returns-in-Text c).In-Some in
-    let b = open_of c.loop-patterns.patterns in
+    let b = c.loop-patterns.patterns in
     let job = c.args.job.now in
     let f = subst (AllFilled job b) (sym (there a)) (fill_text job b at c.loop-patterns.invariant.1 c.in-Text.field-0.now c.next.new.self.at (stepped a ∙ ap (λ r. good (entry r) c.next.new.self.at) c.in-Text.is)) in
     record { book = f.book; left = f.left; at = f.place; err = tt }
@@ -49,17 +48,17 @@ loop-patterns-preserved c =
     let i = c.loop-patterns.invariant in
     let at = c.loop-patterns.reader.at in
     let a = (goal.at.loop-patterns-preserved c).In-Some in
-    let b = open_of c.loop-patterns.patterns in
+    let b = c.loop-patterns.patterns in
     let e = entry c.in-Some.placed.«record» in
     let took = ap (λ n. takes b n e) (sym (there a)) ∙ c.in_ok-take.ensures.ok in
-    (c.in_ok-placed.ensures.job ∙ i.0, fill_again c.args.job.now b at i.1 (open_of c.take.new.patterns) e c.next.new.self.at (stepped a) (no_text c.in-Some.placed.«record» c.in_default-record.not-Text) took)
+    (c.in_ok-placed.ensures.job ∙ i.0, fill_again c.args.job.now b at i.1 c.take.new.patterns e c.next.new.self.at (stepped a) (no_text c.in-Some.placed.«record» c.in_default-record.not-Text) took)
 
 pub returns-in_err-take-clause-err : goal.returns-in_err-take-clause-err
 returns-in_err-take-clause-err c =
     let p = err_from_is_err_and c.from_residual-in_err-take.result c.from_residual-in_err-take.ensures.1 in
     let at = c.loop-patterns.reader.at in
     let a = (goal.at.returns-in_err-take-clause-err c).In-Some in
-    let b = open_of c.loop-patterns.patterns in
+    let b = c.loop-patterns.patterns in
     let e = entry c.in-Some.placed.«record» in
     let f = c.in_err-take.field-0.0 in
     rw (p.1, p.2)
@@ -69,5 +68,5 @@ pub returns : goal.returns
 returns c =
     let i = c.loop-patterns.invariant in
     let at = c.loop-patterns.reader.at in
-    let f = fill_over c.args.job.now (open_of c.loop-patterns.patterns) at i.1 (told_none c.args.job.now _ at c.next.new.self.at i.0 c.in_ok-placed.field-0 c.in_ok-placed.ensures.step c.in_default.is) in
+    let f = fill_over c.args.job.now c.loop-patterns.patterns at i.1 (told_none c.args.job.now _ at c.next.new.self.at i.0 c.in_ok-placed.field-0 c.in_ok-placed.ensures.step c.in_default.is) in
     record { book = f.book; left = f.left; at = f.place; err = tt }
