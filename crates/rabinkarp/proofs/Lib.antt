@@ -1,4 +1,4 @@
-pub mod Counts
+pub mod Filling
 pub mod Slices
 pub mod Members
 pub mod Windows

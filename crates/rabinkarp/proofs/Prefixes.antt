@@ -1,5 +1,7 @@
 -- The first bytes of a pattern, and their hash where it stands in a text.
-use Rattle.std.proofs.Common.{◌≡◌, ℕ, ◌+◌, ◌<◌, List, length, take, drop, sym, ap, ◌∙◌, arith}
+use Rattle.std.proofs.Common.{◌≡◌, ℕ, ◌+◌, ◌-◌, ◌^◌, ◌<◌, ◌≤◌, min, List, [], length, take, drop, sym, ap, ◌∙◌, arith}
+use Rattle.std.specs.List.{fold, slice_index_or}
+use Rattle.rules.specs.declared.primitives.MatchKind.TheVariants.{LeftmostFirst}
 use Rattle.std.proofs.lemmas.List.{length-take-le, take-append-le}
 use Rattle.std.proofs.lemmas.List.Prefix.{at_from_reads}
 use Rattle.rules.specs.Book.{Book, count_of, pattern, shortest}
@@ -9,8 +11,8 @@ use Rattle.rabinkarp.specs.Hash.{hash_of, window}
 use Rattle.rabinkarp.specs.Prefixes.{prefix_hash}
 
 -- a pattern has as many bytes as the shortest has
-pub front_long : (b : Book) (i n : ℕ) (p : List ℕ) → i < count_of b → p ≡ pattern b i → n ≡ shortest b → n ≡ length (take n p)
-front_long b i n p known is e = sym (length-take-le n p (omega (arith, e, ap length is, shortest_le b i known)))
+pub front_fits : (ps : List (List ℕ)) (i : ℕ) → i < length ps → fold (λ m p. min m (length p)) (2 ^ 64 - 1) ps ≤ length (slice_index_or ps i [])
+front_fits ps i l = shortest_le record { kind = LeftmostFirst; patterns = ps } i l
 
 -- a pattern that stands at a place has the hash of the window there
 pub standing_hash : (b : Book) (t : List ℕ) (i s : ℕ) → i < count_of b → Stands (pattern b i) t s → prefix_hash b i ≡ hash_of (window t (shortest b) s)

@@ -1,4 +1,5 @@
 pub mod Buckets
 pub mod Hash
 pub mod Prefixes
+pub mod Prepared
 pub mod Searched

@@ -1,16 +1,18 @@
 ghost use Rattle.std.specs.Prelude.{◌≡◌, ℕ, ◌<◌, slice_index};
 ghost use Rattle.rules.specs.Book.{count_of, shortest};
-ghost use Rattle.pattern.specs.Closed.{book_of, order_in};
-ghost use Rattle.rabinkarp.specs.Hash.{leading};
-ghost use Rattle.rabinkarp.specs.Buckets.{members, in_bucket};
-ghost use Rattle.rabinkarp.specs.Prefixes.{prefix_hash, bucket_of};
+ghost use Rattle.rules.specs.Search.{found};
+ghost use Rattle.rules.specs.Places.{AnswersAt, Verified};
+ghost use Rattle.pattern.specs.Closed.{book_of};
+ghost use Rattle.rabinkarp.specs.Hash.{hash_of, window};
+ghost use Rattle.rabinkarp.specs.Prefixes.{prefix_hash};
+ghost use Rattle.rabinkarp.specs.Prepared.{Prepared};
 
 use crate::buckets::Buckets;
+use crate::rolling::{hash, hash_2pow, update_hash};
+use finder::{Finder, Searcher, verify};
 use pattern::{Book, MAX_PATTERNS};
+use rules::{Match, PatternID};
 use std::rc::Rc;
-
-pub mod find;
-mod hashes;
 
 /// The searcher that compares a pattern only where the hash of the text's next bytes is that of the pattern's first ones.
 /// The hash moves on with the text, one byte at a time.
@@ -24,8 +26,112 @@ pub struct RabinKarp {
     hash_len: usize,
     /// By how much the first of them counts.
     hash_2pow: usize,
-    ghost measured: { hash_len ≡ shortest (book_of book.value) },
-    ghost counted: { hash_2pow ≡ leading hash_len },
-    ghost hashed: { (i : ℕ) → i < count_of (book_of book.value) → slice_index hashes i ≡ prefix_hash (book_of book.value) i },
-    ghost placed: { (k : ℕ) → k < 64 → members buckets k ≡ in_bucket (bucket_of (book_of book.value)) (order_in book.value) k },
+    ghost prepared: { Prepared book.value buckets hashes hash_len hash_2pow },
+}
+
+/// The hash of each pattern's first bytes, as many as the shortest pattern has, at its id. The table has a fixed size, so that
+/// making it cannot refuse.
+#[tactic(auto, using(crate::proofs::Prefixes::front_fits, std::proofs::lemmas::Grind::common_steps, std::proofs::lemmas::Grind::elements))]
+fn hashes(book: &Book) -> [usize; MAX_PATTERNS]
+    ensures { (i : ℕ) → i < count_of (book_of book.now) → slice_index result i ≡ prefix_hash (book_of book.now) i }
+{
+    let len = book.minimum_len();
+    let mut hashes = [0; MAX_PATTERNS];
+    for id in book.order() {
+        hashes[id.as_usize()] = hash(&book.get(*id)[..len]);
+    }
+    hashes
+}
+
+impl RabinKarp {
+    ghost use Rattle.rabinkarp.specs.Searched.{shared, searched};
+
+    /// A searcher over a closed book. One of a book without patterns finds nothing.
+    pub fn new(book: Rc<Book>) -> RabinKarp
+        ensures { ⟦<RabinKarp as Finder>⟧.book result ≡ book_of book.value }
+    {
+        let hash_len = book.minimum_len();
+        let hash_2pow = hash_2pow(hash_len);
+        let hashes = hashes(&book);
+        let buckets = Buckets::new(&book, &hashes);
+        RabinKarp {
+            book,
+            buckets,
+            hashes,
+            hash_len,
+            hash_2pow,
+        }
+    }
+
+    /// The closed book that the searcher holds.
+    pub fn book(&self) -> &Book
+        ensures { result.now ≡ shared self.now }
+    {
+        &self.book
+    }
+
+    // Beside `find_here`, since that is proved by hand: an edit is to be refused at this line.
+    /// The match of a pattern at a place, if it occurs there.
+    fn verify(&self, id: PatternID, text: &[u8], start: usize) -> Option<Match>
+        ensures { Verified (searched self.now) id text.now start result }
+    {
+        verify(&self.book, id, text, start)
+    }
+
+    /// The pattern that is found at one place, where the text's next bytes have a hash: the first of its bucket that stands
+    /// there.
+    fn find_here(&self, text: &[u8], start: usize, hash: usize) -> Option<Match>
+        requires { hash ≡ hash_of (window text.now (shortest (searched self.now)) start) }
+        ensures { AnswersAt (searched self.now) text.now start result }
+    {
+        // A loop: with `filter` and `find_map` the check does not find the answer.
+        for id in self.buckets.bucket(hash) {
+            if self.hashes[id.as_usize()] == hash {
+                if let Some(hit) = self.verify(*id, text, start) {
+                    return Some(hit);
+                }
+            }
+        }
+        None
+    }
+
+    /// Tries place after place.
+    fn find_at(&self, text: &[u8], at: usize) -> Option<Match>
+        ensures { result ≡ found (searched self.now) text.now at }
+    {
+        let len = self.hash_len;
+        let mut hash = hash(text.get(at..)?.get(..len)?);
+        // A loop by place: the hash moves on with it.
+        for start in at..text.len() - len {
+            if let Some(hit) = self.find_here(text, start, hash) {
+                return Some(hit);
+            }
+            hash = update_hash(hash, self.hash_2pow, text[start], text[start + len]);
+        }
+        self.find_here(text, text.len() - len, hash)
+    }
+}
+
+impl Finder for RabinKarp {
+    ghost use Rattle.rabinkarp.specs.Searched.{shared, searched};
+
+    ghost book = { λ x. searched x };
+
+    ghost within = { λ x. (shared x).sound.within };
+
+    fn pattern_count(&self) -> usize {
+        self.book.len()
+    }
+
+    fn find(&self, text: &[u8], at: usize) -> Option<Match> {
+        self.find_at(text, at)
+    }
+}
+
+impl Searcher for RabinKarp {
+    type Setting = ();
+
+    fn over(closed: Rc<Book>, _setting: ()) -> RabinKarp {
+        RabinKarp::new(closed)
+    }
 }

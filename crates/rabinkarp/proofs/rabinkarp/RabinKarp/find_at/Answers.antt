@@ -13,7 +13,7 @@ use Rattle.rabinkarp.proofs.rabinkarp.RabinKarp.find_at.Goals as goal
 
 -- an occurrence has its window in the text
 fits : (x : RabinKarp) (t : List ℕ) (i s : ℕ) → OccursAt (searched x) t i s → s + x.hash_len ≤ length t
-fits x t i s o = omega (arith, x.measured, shortest_le (searched x) i o.known, o.stands.0)
+fits x t i s o = omega (arith, x.prepared.measured, shortest_le (searched x) i o.known, o.stands.0)
 
 -- a text without a window from the place on
 short : (x : RabinKarp) (t : List ℕ) (at : ℕ) (r : Option Match) → r ≡ None → length t < at + x.hash_len → r ≡ found (searched x) t at
@@ -25,9 +25,9 @@ next : (x : RabinKarp) (t : List ℕ) (s h : ℕ) → s < length t - x.hash_len 
 next x t s h l e =
     let m = shortest (searched x) in
     ap (λ n. moved n x.hash_2pow (get_or t s 0) (get_or t (s + x.hash_len) 0)) e
-    ∙ (ap (λ n. moved (hash_of (window t m s)) n (get_or t s 0) (get_or t (s + x.hash_len) 0)) (x.counted ∙ ap leading x.measured)
-    ∙ (ap (λ n. moved (hash_of (window t m s)) (leading m) (get_or t s 0) (get_or t (s + n) 0)) x.measured
-    ∙ rolling t m s (shortest_pos (searched x) (rc_value x.book).sound.within.some) (omega (arith, x.measured))))
+    ∙ (ap (λ n. moved (hash_of (window t m s)) n (get_or t s 0) (get_or t (s + x.hash_len) 0)) (x.prepared.counted ∙ ap leading x.prepared.measured)
+    ∙ (ap (λ n. moved (hash_of (window t m s)) (leading m) (get_or t s 0) (get_or t (s + n) 0)) x.prepared.measured
+    ∙ rolling t m s (shortest_pos (searched x) (rc_value x.book).sound.within.some) (omega (arith, x.prepared.measured))))
 
 pub returns-in_err-get : goal.returns-in_err-get
 returns-in_err-get c = short c.args.self.now c.args.text.now c.args.at c.from_residual.result c.from_residual.ensures (omega (arith, c.in_err-get.ensures.lookup))

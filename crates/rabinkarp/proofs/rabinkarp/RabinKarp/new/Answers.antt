@@ -4,7 +4,7 @@ use Rattle.pattern.specs.declared.book.Book.{Book}
 use Rattle.pattern.specs.Closed.{book_of, order_in}
 use Rattle.rabinkarp.specs.Buckets.{Holds}
 use Rattle.rabinkarp.proofs.Members.{bucket_same}
-use Rattle.rabinkarp.specs.Prefixes.{prefix_hash, bucket_of}
+use Rattle.rabinkarp.specs.Prefixes.{prefix_hash, hash_bucket}
 use Rattle.rabinkarp.proofs.rabinkarp.RabinKarp.new.Goals as goal
 
 pub invariant_of-result : goal.invariant_of-result
@@ -15,9 +15,9 @@ invariant_of-result c =
     let hashed : (i : ℕ) → i < count_of (book_of b) → get_or hs i 0 ≡ prefix_hash (book_of b) i =
     subst (λ (q : Book). (i : ℕ) → i < count_of (book_of q) → get_or hs i 0 ≡ prefix_hash (book_of q) i) c.deref-2.ensures c.hashes-hashes.ensures in
     let held = subst (λ (q : Book). Holds c.new-buckets.result key (order_in q)) c.deref-3.ensures c.new-buckets.ensures in
-    record {
+    record { prepared = record {
       measured = c.minimum_len-hash_len.ensures ∙ ap (λ (q : Book). shortest (book_of q)) c.deref.ensures;
       counted = c.hash_2pow-hash_2pow.ensures;
       hashed = hashed;
-      placed = λ k l. held k l ∙ bucket_same b key k (bucket_of (book_of b)) (λ i known. ap (λ n. n % 64) (hashed i known));
-    }
+      placed = λ k l. held k l ∙ bucket_same b key k (hash_bucket (book_of b)) (λ i known. ap (λ n. n % 64) (hashed i known));
+    } }

@@ -1,0 +1,13 @@
+use Rattle.std.proofs.Common.{◌≡◌, ℕ, ◌≤◌, length, get_or}
+use Rattle.rabinkarp.proofs.Filling.{filled}
+use Rattle.rabinkarp.proofs.buckets.Buckets.new.Given as goal
+
+abbrev pub invariant-loop-k : goal.invariant-loop-k
+invariant-loop-k l = record {
+  all : l.ids.items ≡ filled l.keys l.order l.k 0;
+  long : length l.starts ≡ 65;
+  started : (j : ℕ) → j ≤ l.k → get_or l.starts j 0 ≡ length (filled l.keys l.order j 0);
+}
+
+abbrev pub invariant-loop-id : goal.invariant-loop-id
+invariant-loop-id l = l.ids.items ≡ filled l.keys l.order l.k l.id-index
