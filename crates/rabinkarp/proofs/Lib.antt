@@ -1,3 +1,4 @@
+mod Constants
 pub mod Filling
 pub mod Slices
 pub mod Members

@@ -3,11 +3,9 @@ use Rattle.std.proofs.Common.{◌≡◌, ℕ, zero, suc, ◌<◌, Bool, true, co
 use Rattle.std.specs.List.{AllByRecursion}
 use Rattle.std.proofs.ByRecursion.{All-get_or, All-from_get_or, all_kept_by}
 use Rattle.std.proofs.lemmas.Bool.{cases_Bool, eq-eqb, cond-true, cond-false}
-use Rattle.rules.specs.Book.{count_of, Preferred}
-use Rattle.pattern.specs.declared.book.Book.{Book}
-use Rattle.pattern.specs.Order.{ReadingOrder}
-use Rattle.pattern.specs.Closed.{book_of, order_in}
-use Rattle.pattern.proofs.Trying as trying
+use Rattle.rules.specs.Book.{Book, count_of, Preferred}
+use Rattle.pattern.specs.Order.{order_in}
+use Rattle.pattern.proofs.Trying.{reading_order}
 use Rattle.rabinkarp.specs.Buckets.{in_bucket}
 
 -- what a filter keeps is in the order of the whole
@@ -56,25 +54,21 @@ same_kept f g k (x ∷ xs) h =
     ap (λ n. cond (eqb n k) (x ∷ in_bucket f xs k) (in_bucket f xs k)) (h 0 (omega arith))
     ∙ ap (λ q. cond (eqb (g x) k) (x ∷ q) q) (same_kept f g k xs (λ i l. h (suc i) (omega arith)))
 
--- the order of a closed book
-pub ordered : (b : Book) → ReadingOrder (book_of b) (order_in b)
-ordered b = trying.ordered b _ refl
-
 module _ (b : Book) (key : ℕ → ℕ) (k : ℕ) where
-  pub bucket_known : (i : ℕ) → i < length (in_bucket key (order_in b) k) → get_or (in_bucket key (order_in b) k) i 0 < count_of (book_of b)
+  pub bucket_known : (i : ℕ) → i < length (in_bucket key (order_in b) k) → get_or (in_bucket key (order_in b) k) i 0 < count_of b
   bucket_known i l =
-      let known : ℕ → Type 0 = λ id. id < count_of (book_of b) in
-      All-get_or known (in_bucket key (order_in b) k) i 0 l (all_kept_by (λ id. eqb (key id) k) known (order_in b) (All-from_get_or known (order_in b) 0 (ordered b).known))
+      let known : ℕ → Type 0 = λ id. id < count_of b in
+      All-get_or known (in_bucket key (order_in b) k) i 0 l (all_kept_by (λ id. eqb (key id) k) known (order_in b) (All-from_get_or known (order_in b) 0 (reading_order b).known))
 
-  pub bucket_all : (id : ℕ) → id < count_of (book_of b) → key id ≡ k → (i : ℕ) × (i < length (in_bucket key (order_in b) k)) × (get_or (in_bucket key (order_in b) k) i 0 ≡ id)
+  pub bucket_all : (id : ℕ) → id < count_of b → key id ≡ k → (i : ℕ) × (i < length (in_bucket key (order_in b) k)) × (get_or (in_bucket key (order_in b) k) i 0 ≡ id)
   bucket_all id l e =
-      let at = (ordered b).all id l in
+      let at = (reading_order b).all id l in
       let r = has_kept (λ x. eqb (key x) k) (order_in b) at.0 at.1 (eq-eqb (key (get_or (order_in b) at.0 0)) k (ap key at.2 ∙ e)) in
       (r.0, r.1, r.2 ∙ at.2)
 
-  pub bucket_preferred : (i j : ℕ) → i < j → j < length (in_bucket key (order_in b) k) → Preferred (book_of b) (get_or (in_bucket key (order_in b) k) i 0) (get_or (in_bucket key (order_in b) k) j 0)
+  pub bucket_preferred : (i j : ℕ) → i < j → j < length (in_bucket key (order_in b) k) → Preferred b (get_or (in_bucket key (order_in b) k) i 0) (get_or (in_bucket key (order_in b) k) j 0)
   unfolding Pairs
-  bucket_preferred = pairs_kept (Preferred (book_of b)) (λ id. eqb (key id) k) (order_in b) (ordered b).preferred
+  bucket_preferred = pairs_kept (Preferred b) (λ id. eqb (key id) k) (order_in b) (reading_order b).preferred
 
-  pub bucket_same : (other : ℕ → ℕ) → ((id : ℕ) → id < count_of (book_of b) → key id ≡ other id) → in_bucket key (order_in b) k ≡ in_bucket other (order_in b) k
-  bucket_same other h = same_kept key other k (order_in b) (λ i l. h (get_or (order_in b) i 0) ((ordered b).known i l))
+  pub bucket_same : (other : ℕ → ℕ) → ((id : ℕ) → id < count_of b → key id ≡ other id) → in_bucket key (order_in b) k ≡ in_bucket other (order_in b) k
+  bucket_same other h = same_kept key other k (order_in b) (λ i l. h (get_or (order_in b) i 0) ((reading_order b).known i l))

@@ -1,8 +1,8 @@
 -- The first bytes of a pattern, and their hash where it stands in a text.
-use Rattle.std.proofs.Common.{◌≡◌, ℕ, ◌+◌, ◌-◌, ◌^◌, ◌<◌, ◌≤◌, min, List, [], length, take, drop, sym, ap, ◌∙◌, arith}
+use Rattle.std.proofs.Common.{◌≡◌, ℕ, ◌+◌, ◌-◌, ◌^◌, ◌<◌, ◌≤◌, min, List, [], length, take, drop, sym, ap, ◌∙◌}
 use Rattle.std.specs.List.{fold, slice_index_or}
 use Rattle.rules.specs.declared.primitives.MatchKind.TheVariants.{LeftmostFirst}
-use Rattle.std.proofs.lemmas.List.{length-take-le, take-append-le}
+use Rattle.std.proofs.lemmas.List.{take-append-le}
 use Rattle.std.proofs.lemmas.List.Prefix.{at_from_reads}
 use Rattle.rules.specs.Book.{Book, count_of, pattern, shortest}
 use Rattle.rules.specs.Search.{Stands}

@@ -2,4 +2,3 @@ pub mod Buckets
 pub mod Hash
 pub mod Prefixes
 pub mod Prepared
-pub mod Searched

@@ -1,7 +1,7 @@
 ghost use Rattle.std.specs.Prelude.{◌≡◌, ℕ, ◌+◌, ◌%◌, ◌<◌, ◌≤◌, slice_index};
 ghost use Rattle.arrayvec.specs.ArrayVec.{array_vec_len};
 ghost use Rattle.rules.specs.Limits.{hash_buckets};
-ghost use Rattle.pattern.specs.Closed.{order_in};
+ghost use Rattle.pattern.specs.Order.{order_in};
 
 use arrayvec::ArrayVec;
 use pattern::{Book, MAX_PATTERNS};

@@ -1,8 +1,7 @@
 ghost use Rattle.std.specs.Prelude.{◌≡◌, ℕ, ◌<◌, slice_index};
-ghost use Rattle.rules.specs.Book.{count_of, shortest};
+ghost use Rattle.rules.specs.Book.{Within, count_of, shortest};
 ghost use Rattle.rules.specs.Search.{found};
 ghost use Rattle.rules.specs.Places.{AnswersAt, Verified};
-ghost use Rattle.pattern.specs.Closed.{book_of};
 ghost use Rattle.rabinkarp.specs.Hash.{hash_of, window};
 ghost use Rattle.rabinkarp.specs.Prefixes.{prefix_hash};
 ghost use Rattle.rabinkarp.specs.Prepared.{Prepared};
@@ -26,6 +25,7 @@ pub struct RabinKarp {
     hash_len: usize,
     /// By how much the first of them counts.
     hash_2pow: usize,
+    ghost within: { Within book.value },
     ghost prepared: { Prepared book.value buckets hashes hash_len hash_2pow },
 }
 
@@ -33,7 +33,7 @@ pub struct RabinKarp {
 /// making it cannot refuse.
 #[tactic(auto, using(crate::proofs::Prefixes::front_fits, std::proofs::lemmas::Grind::common_steps, std::proofs::lemmas::Grind::elements))]
 fn hashes(book: &Book) -> [usize; MAX_PATTERNS]
-    ensures { (i : ℕ) → i < count_of (book_of book.now) → slice_index result i ≡ prefix_hash (book_of book.now) i }
+    ensures { (i : ℕ) → i < count_of book.now → slice_index result i ≡ prefix_hash book.now i }
 {
     let len = book.minimum_len();
     let mut hashes = [0; MAX_PATTERNS];
@@ -44,11 +44,9 @@ fn hashes(book: &Book) -> [usize; MAX_PATTERNS]
 }
 
 impl RabinKarp {
-    ghost use Rattle.rabinkarp.specs.Searched.{shared, searched};
-
     /// A searcher over a closed book. One of a book without patterns finds nothing.
     pub fn new(book: Rc<Book>) -> RabinKarp
-        ensures { ⟦<RabinKarp as Finder>⟧.book result ≡ book_of book.value }
+        ensures { ⟦<RabinKarp as Finder>⟧.book result ≡ book.value }
     {
         let hash_len = book.minimum_len();
         let hash_2pow = hash_2pow(hash_len);
@@ -65,7 +63,7 @@ impl RabinKarp {
 
     /// The closed book that the searcher holds.
     pub fn book(&self) -> &Book
-        ensures { result.now ≡ shared self.now }
+        ensures { result.now ≡ ⟦<RabinKarp as Finder>⟧.book self.now }
     {
         &self.book
     }
@@ -73,7 +71,7 @@ impl RabinKarp {
     // Beside `find_here`, since that is proved by hand: an edit is to be refused at this line.
     /// The match of a pattern at a place, if it occurs there.
     fn verify(&self, id: PatternID, text: &[u8], start: usize) -> Option<Match>
-        ensures { Verified (searched self.now) id text.now start result }
+        ensures { Verified self.now.book.value id text.now start result }
     {
         verify(&self.book, id, text, start)
     }
@@ -81,8 +79,8 @@ impl RabinKarp {
     /// The pattern that is found at one place, where the text's next bytes have a hash: the first of its bucket that stands
     /// there.
     fn find_here(&self, text: &[u8], start: usize, hash: usize) -> Option<Match>
-        requires { hash ≡ hash_of (window text.now (shortest (searched self.now)) start) }
-        ensures { AnswersAt (searched self.now) text.now start result }
+        requires { hash ≡ hash_of (window text.now (shortest self.now.book.value) start) }
+        ensures { AnswersAt self.now.book.value text.now start result }
     {
         // A loop: with `filter` and `find_map` the check does not find the answer.
         for id in self.buckets.bucket(hash) {
@@ -97,7 +95,7 @@ impl RabinKarp {
 
     /// Tries place after place.
     fn find_at(&self, text: &[u8], at: usize) -> Option<Match>
-        ensures { result ≡ found (searched self.now) text.now at }
+        ensures { result ≡ found self.now.book.value text.now at }
     {
         let len = self.hash_len;
         let mut hash = hash(text.get(at..)?.get(..len)?);
@@ -113,11 +111,9 @@ impl RabinKarp {
 }
 
 impl Finder for RabinKarp {
-    ghost use Rattle.rabinkarp.specs.Searched.{shared, searched};
+    ghost book = { λ x. x.book.value };
 
-    ghost book = { λ x. searched x };
-
-    ghost within = { λ x. (shared x).sound.within };
+    ghost within = { λ x. x.within };
 
     fn pattern_count(&self) -> usize {
         self.book.len()

@@ -1,4 +1,4 @@
-use Rattle.std.proofs.Common.{◌≡◌, length, ap, ◌∙◌, arith}
+use Rattle.std.proofs.Common.{ap, ◌∙◌, arith}
 use Rattle.rabinkarp.specs.Buckets.{in_bucket}
 use Rattle.rabinkarp.proofs.Filling.{key_of}
 use Rattle.rabinkarp.proofs.Slices.{Grouped, finished, bucket_is, rising_of, within_of}
