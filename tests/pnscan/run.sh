@@ -1,7 +1,7 @@
 #!/usr/bin/env bash
 # The program pnscan on a few of the stored jobs, the longest among them: what it prints, and whether it ends with status 1,
 # which it does exactly after a fault line, and then with the fault as its error. It is built by `rt try`, which proves nothing; `rt ci` proves it and runs it once,
-# and the program `jobs` runs all stored jobs through the same library.
+# and the program `test_jobs` runs all stored jobs through the same library.
 set -eu
 
 root=$(cd "$(dirname "$0")/../.." && pwd)
@@ -9,12 +9,12 @@ tmp=$(mktemp -d)
 trap 'rm -rf "$tmp"' EXIT
 
 mkdir "$tmp/cases"
-cp "$root"/examples/*.job "$root"/crates/jobs/data/{fault_1[0-4],fault_4,fault_8}_*.job "$root"/crates/jobs/data/{job_65536,apart,one_hit_covers,across_windows,tail,equal_hash,random_0,random_1}.job "$tmp/cases/"
+cp "$root"/examples/*.job "$root"/crates/test_jobs/data/{fault_1[0-4],fault_4,fault_8}_*.job "$root"/crates/test_jobs/data/{job_65536,apart,one_hit_covers,across_windows,tail,equal_hash,random_0,random_1}.job "$tmp/cases/"
 (cd "$root/crates/pnscan" && rt try --cases "$tmp/cases") >"$tmp/log" 2>&1 || true
 
 for job in "$tmp"/cases/*.job; do
     name=$(basename "$job" .job)
-    out=$root/crates/jobs/data/$name.out
+    out=$root/crates/test_jobs/data/$name.out
     echo "== $name.job"
     cat "$out"
     if fault=$(grep '^fault ' "$out"); then

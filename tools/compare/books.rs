@@ -46,7 +46,7 @@ fn pattern(random: &mut Random, letters: &[u8], made: &[Vec<u8>], low: usize, hi
     p
 }
 
-/// How many patterns, and their lengths: mostly few and short ones, some about as long as the hash has digits, some full books.
+/// How many patterns, and their lengths: mostly few and short ones, some about as long as the hash has bits, some full books.
 fn patterns(random: &mut Random, letters: &[u8]) -> Vec<Vec<u8>> {
     let (count, low, high) = match random.below(60) {
         0 => (random.between(600, 1100), 1, 16),

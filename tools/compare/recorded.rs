@@ -1,4 +1,4 @@
-//! Writes a list of the Rust's answers for the program `answers`.
+//! Writes a list of the Rust's answers for the program `test_answers`.
 use crate::random::Random;
 use crate::{books, ours, ways, Rust};
 

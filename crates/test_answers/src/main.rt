@@ -1,5 +1,5 @@
 //! Replays a stored list of the Rust's answers: each call has to answer the same number and write the same bytes.
-//! `tools/compare/run --record crates/answers/data/answers` made the list.
+//! `tools/compare/run --record crates/test_answers/data/answers` made the list.
 
 #![tactic(auto)]
 
@@ -52,10 +52,10 @@ impl<'a> Iterator for Entries<'a> {
     }
 }
 
-fn agrees(heap: Global, entry: Entry<'_>) -> bool {
+fn agrees(alloc: Global, entry: Entry<'_>) -> bool {
     let mut out = [0; 12];
     let number = find(
-        heap,
+        alloc,
         entry.job,
         entry.place,
         entry.searcher,
@@ -66,13 +66,13 @@ fn agrees(heap: Global, entry: Entry<'_>) -> bool {
 }
 
 fn main(rt: HostRuntime) -> io::Result<()> {
-    let heap = rt.alloc();
+    let alloc = rt.alloc();
     let list = fs::read(&rt, "answers")?;
     let mut entries = Entries { rest: &list };
     let agree: Vec<bool> = entries
         .by_ref()
-        .map(|entry| agrees(heap, entry))
-        .collect(heap)?;
+        .map(|entry| agrees(alloc, entry))
+        .collect(alloc)?;
     let same = agree.iter().filter(|same| **same).count();
     let others = agree.iter().filter(|same| !**same).count();
     let read = list.len().saturating_sub(entries.rest.len());

@@ -1,24 +1,30 @@
-//! Runs the stored jobs, and compares what is printed of each with what stands beside it.
+//! Runs jobs, and compares what is printed of each: of stored jobs with what stands beside them, then of many drawn jobs with
+//! what a plain model of the rules says.
+//!
+//! The argument, if there is one, says how many jobs are drawn. The stored jobs lie in the folder where the program runs, as
+//! in `(cd data && ../out/test_jobs 200000)`.
 
 #![tactic(auto)]
 
-use account::{report, run};
-use std::{fs, io};
+use std::env;
+use std::rt::Env;
 
-/// Whether a job prints what it must.
-fn agrees(rt: &HostRuntime, name: &str) -> io::Result<bool> {
-    let heap = rt.alloc();
-    let job = fs::read(rt, format!(in heap; "{name}.job")?)?;
-    let expected = fs::read(rt, format!(in heap; "{name}.out")?)?;
-    let text = report(heap, &run(heap, &job))?;
-    Ok(text.as_str().as_bytes() == expected.as_slice())
+mod drawn;
+mod stored;
+
+/// How many jobs are drawn where no number is given: few enough for `rt try`, which runs a program some hundred times slower.
+const JOBS: usize = 500;
+
+/// How many jobs are to be drawn.
+fn job_count(rt: &(impl Env + AllocGlobal)) -> anyhow::Result<usize> {
+    match env::args(rt)?.nth(1) {
+        Some(number) => Ok(number.as_str().parse::<usize>()?),
+        None => Ok(JOBS),
+    }
 }
 
-fn main(rt: HostRuntime) -> io::Result<()> {
-    let names = fs::read_to_string(&rt, "names")?;
-    for name in names.lines() {
-        let verdict = if agrees(&rt, name)? { "ok" } else { "DIFFERS" };
-        println!(rt; "{name} {verdict}")?;
-    }
-    Ok(())
+fn main(rt: HostRuntime) -> anyhow::Result<()> {
+    let count = job_count(&rt)?;
+    stored::run_all(&rt)?;
+    drawn::run_all(&rt, count)
 }

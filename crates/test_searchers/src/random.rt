@@ -1,38 +1,33 @@
 use std::alloc::{AllocError, Global};
+use xorshift::Xorshift;
 
-/// Numbers that look random and are the same in each run. What is printed counts on these, so they are not those of `xorshift`.
+/// Drawn numbers and words, the same in each run.
 #[derive(Drop)]
 pub(crate) struct Random {
-    state: u64,
+    numbers: Xorshift,
 }
 
 impl Random {
-    pub(crate) fn new(seed: u64) -> Random {
-        Random { state: seed }
-    }
-
-    fn next(&mut self) -> usize {
-        self.state = self
-            .state
-            .wrapping_mul(6364136223846793005)
-            .wrapping_add(1442695040888963407);
-        (self.state >> 33) as usize
+    pub(crate) fn new() -> Random {
+        Random {
+            numbers: Xorshift::FIRST,
+        }
     }
 
     /// A number below `n`, or 0 where `n` is 0.
     pub(crate) fn below(&mut self, n: usize) -> usize {
-        self.next().checked_rem(n).unwrap_or(0)
+        (self.numbers.next() as usize).checked_rem(n).unwrap_or(0)
     }
 
-    /// `len` of the first `letters` letters.
-    pub(crate) fn letters(
+    /// A word of so many of the letters.
+    pub(crate) fn word(
         &mut self,
-        heap: Global,
+        alloc: Global,
+        letters: &[u8],
         len: usize,
-        letters: u8,
     ) -> Result<Vec<u8>, AllocError> {
         (0..len)
-            .map(|_| b'A'.wrapping_add((self.below(usize::from(letters)) & 0x7f) as u8))
-            .collect(heap)
+            .filter_map(|_| letters.get(self.below(letters.len())).copied())
+            .collect(alloc)
     }
 }

@@ -1,7 +1,7 @@
 //! Jobs with something wrong.
 
-use crate::random::Random;
-use crate::record::{Written, write};
+use crate::drawn::random::Random;
+use crate::drawn::record::{Written, write};
 use std::alloc::{AllocError, Global};
 
 /// The place of one of the records, or the job's end.
@@ -11,10 +11,10 @@ fn some_place(random: &mut Random, job: &Written) -> usize {
 }
 
 /// A record that is out of place wherever it stands, or at some places.
-fn stray(heap: Global, random: &mut Random) -> Result<Vec<u8>, AllocError> {
-    let mut record = Vec::new(heap);
+fn stray(alloc: Global, random: &mut Random) -> Result<Vec<u8>, AllocError> {
+    let mut record = Vec::new(alloc);
     let len = random.below(3);
-    let word = random.word(heap, len, 2)?;
+    let word = random.word(alloc, len, 2)?;
     match random.below(10) {
         0 => write(&mut record, b"PN", b"")?,
         1 | 2 => write(&mut record, b"PN", &word)?,
@@ -30,8 +30,8 @@ fn stray(heap: Global, random: &mut Random) -> Result<Vec<u8>, AllocError> {
 }
 
 /// The job with a stray record before one of its records, or behind all.
-fn with_stray(heap: Global, random: &mut Random, job: &Written) -> Result<Vec<u8>, AllocError> {
-    let stray = stray(heap, random)?;
+fn with_stray(alloc: Global, random: &mut Random, job: &Written) -> Result<Vec<u8>, AllocError> {
+    let stray = stray(alloc, random)?;
     let end = job.bytes.len();
     let place = if random.one_in(3) {
         end
@@ -39,18 +39,22 @@ fn with_stray(heap: Global, random: &mut Random, job: &Written) -> Result<Vec<u8
         some_place(random, job).min(end)
     };
     let (before, behind) = job.bytes.split_at(place);
-    let mut bytes = before.to_vec(heap)?;
+    let mut bytes = before.to_vec(alloc)?;
     bytes.extend_from_slice(&stray)?;
     bytes.extend_from_slice(behind)?;
     Ok(bytes)
 }
 
 /// The job behind the pattern `A`, and then a text with about as many hits as a text may have, and one more text.
-fn with_many_hits(heap: Global, random: &mut Random, job: &Written) -> Result<Vec<u8>, AllocError> {
-    let mut bytes = Vec::new(heap);
+fn with_many_hits(
+    alloc: Global,
+    random: &mut Random,
+    job: &Written,
+) -> Result<Vec<u8>, AllocError> {
+    let mut bytes = Vec::new(alloc);
     write(&mut bytes, b"PN", b"A")?;
     bytes.extend_from_slice(&job.bytes)?;
-    let text = vec![in heap; b'A'; random.between(4094, 4098)]?;
+    let text = vec![in alloc; b'A'; random.between(4094, 4098)]?;
     write(&mut bytes, b"TX", &text)?;
     write(&mut bytes, b"TX", b"A")?;
     Ok(bytes)
@@ -75,19 +79,19 @@ fn with_byte(random: &mut Random, job: Written, offset: usize) -> Vec<u8> {
 
 /// The job as it is, or with something wrong.
 pub(crate) fn perhaps(
-    heap: Global,
+    alloc: Global,
     random: &mut Random,
     job: Written,
 ) -> Result<Vec<u8>, AllocError> {
     match random.below(128) {
-        0 => with_many_hits(heap, random, &job),
+        0 => with_many_hits(alloc, random, &job),
         1..=12 => Ok(cut(random, job)),
         // a byte of a mark, of a length, or of what stands behind them
         13..=36 => {
             let offset = random.below(6);
             Ok(with_byte(random, job, offset))
         }
-        37..=64 => with_stray(heap, random, &job),
+        37..=64 => with_stray(alloc, random, &job),
         _ => Ok(job.bytes),
     }
 }

@@ -1,4 +1,4 @@
-use crate::model::Expected;
+use crate::drawn::model::Expected;
 use std::fmt;
 
 /// What the jobs came to.

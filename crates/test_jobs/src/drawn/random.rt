@@ -43,10 +43,10 @@ impl Random {
     /// `len` of the first `letters` letters.
     pub(crate) fn word(
         &mut self,
-        heap: Global,
+        alloc: Global,
         len: usize,
         letters: usize,
     ) -> Result<Vec<u8>, AllocError> {
-        (0..len).map(|_| self.letter(letters)).collect(heap)
+        (0..len).map(|_| self.letter(letters)).collect(alloc)
     }
 }

@@ -1,7 +1,7 @@
 //! Jobs as a person might write them, over few letters, so that patterns begin alike, contain one another and overlap.
 
-use crate::random::Random;
-use crate::record::Written;
+use crate::drawn::random::Random;
+use crate::drawn::record::Written;
 use std::alloc::{AllocError, Global};
 
 /// How long a pattern is: mostly short, so that it occurs.
@@ -15,13 +15,13 @@ fn pattern_len(random: &mut Random) -> usize {
 
 /// A pattern: letters, or an earlier pattern once more, its beginning, or it with letters behind it.
 fn pattern(
-    heap: Global,
+    alloc: Global,
     random: &mut Random,
     letters: usize,
     earlier: &[Vec<u8>],
 ) -> Result<Vec<u8>, AllocError> {
     let len = pattern_len(random);
-    let word = random.word(heap, len, letters)?;
+    let word = random.word(alloc, len, letters)?;
     let Some(old) = earlier.get(random.below(earlier.len())) else {
         return Ok(word);
     };
@@ -53,14 +53,14 @@ fn text_len(random: &mut Random) -> usize {
 
 /// A text: letters, dots, which no pattern has, and patterns.
 fn text(
-    heap: Global,
+    alloc: Global,
     random: &mut Random,
     letters: usize,
     patterns: &[Vec<u8>],
 ) -> Result<Vec<u8>, AllocError> {
     let len = text_len(random);
     let dots = random.below(4);
-    let mut text = Vec::new(heap);
+    let mut text = Vec::new(alloc);
     for _ in 0..len {
         if random.below(4) < dots {
             text.push(b'.')?;
@@ -96,19 +96,19 @@ fn kind(random: &mut Random, job: &mut Written) -> Result<(), AllocError> {
 }
 
 /// A job without a fault, unless it has no patterns.
-pub(crate) fn job(heap: Global, random: &mut Random) -> Result<Written, AllocError> {
+pub(crate) fn job(alloc: Global, random: &mut Random) -> Result<Written, AllocError> {
     let letters = random.between(2, 4);
-    let mut patterns = Vec::new(heap);
-    let mut job = Written::new(heap);
+    let mut patterns = Vec::new(alloc);
+    let mut job = Written::new(alloc);
     for _ in 0..pattern_count(random) {
         kind(random, &mut job)?;
-        let pattern = pattern(heap, random, letters, &patterns)?;
+        let pattern = pattern(alloc, random, letters, &patterns)?;
         job.record(b"PN", &pattern)?;
         patterns.push(pattern)?;
     }
     kind(random, &mut job)?;
     for _ in 0..random.below(6) {
-        let text = text(heap, random, letters, &patterns)?;
+        let text = text(alloc, random, letters, &patterns)?;
         job.record(b"TX", &text)?;
     }
     Ok(job)

@@ -8,10 +8,10 @@ pub(crate) struct Written {
 }
 
 impl Written {
-    pub(crate) fn new(heap: Global) -> Written {
+    pub(crate) fn new(alloc: Global) -> Written {
         Written {
-            bytes: Vec::new(heap),
-            places: Vec::new(heap),
+            bytes: Vec::new(alloc),
+            places: Vec::new(alloc),
         }
     }
 

@@ -55,8 +55,8 @@ fn head(rest: &[u8]) -> Option<Record<'_>> {
 }
 
 /// A number in decimals.
-fn decimal(heap: Global, n: usize) -> Result<Vec<u8>, AllocError> {
-    let mut digits = Vec::new(heap);
+fn decimal(alloc: Global, n: usize) -> Result<Vec<u8>, AllocError> {
+    let mut digits = Vec::new(alloc);
     let mut left = n;
     for _ in 0..20 {
         digits.push(b'0' + (left % 10) as u8)?;
@@ -70,14 +70,19 @@ fn decimal(heap: Global, n: usize) -> Result<Vec<u8>, AllocError> {
 }
 
 /// Prints a line: a word, if there is one, and numbers, with blanks between.
-fn line(heap: Global, out: &mut Vec<u8>, word: &[u8], numbers: &[usize]) -> Result<(), AllocError> {
+fn line(
+    alloc: Global,
+    out: &mut Vec<u8>,
+    word: &[u8],
+    numbers: &[usize],
+) -> Result<(), AllocError> {
     out.extend_from_slice(word)?;
     let mut between = !word.is_empty();
     for n in numbers {
         if between {
             out.push(b' ')?;
         }
-        out.extend_from_slice(&decimal(heap, *n)?)?;
+        out.extend_from_slice(&decimal(alloc, *n)?)?;
         between = true;
     }
     out.push(b'\n')?;
@@ -100,12 +105,12 @@ fn occurs(pattern: &[u8], text: &[u8], start: usize) -> bool {
 }
 
 impl<'a> Model<'a> {
-    fn new(heap: Global) -> Model<'a> {
+    fn new(alloc: Global) -> Model<'a> {
         Model {
-            patterns: Vec::new(heap),
+            patterns: Vec::new(alloc),
             longest: false,
             texts: 0,
-            hits: Vec::new(heap),
+            hits: Vec::new(alloc),
         }
     }
 
@@ -175,8 +180,8 @@ impl<'a> Model<'a> {
     }
 
     /// The hits of a text.
-    fn listing(&self, heap: Global, text: &[u8]) -> Result<Vec<Hit>, AllocError> {
-        let mut hits = Vec::new(heap);
+    fn listing(&self, alloc: Global, text: &[u8]) -> Result<Vec<Hit>, AllocError> {
+        let mut hits = Vec::new(alloc);
         let mut at = 0;
         for _ in 0..text.len() {
             let Some(hit) = self.found(text, at) else {
@@ -189,8 +194,8 @@ impl<'a> Model<'a> {
     }
 
     /// Scans a text, or says why it is refused.
-    fn scan(&mut self, heap: Global, text: &[u8]) -> Result<Option<usize>, AllocError> {
-        let hits = self.listing(heap, text)?;
+    fn scan(&mut self, alloc: Global, text: &[u8]) -> Result<Option<usize>, AllocError> {
+        let hits = self.listing(alloc, text)?;
         if hits.len() > 4096 {
             return Ok(Some(8));
         }
@@ -200,21 +205,21 @@ impl<'a> Model<'a> {
     }
 
     /// Takes a record in, or says what is wrong with it.
-    fn take(&mut self, heap: Global, record: Record<'a>) -> Result<Option<usize>, AllocError> {
+    fn take(&mut self, alloc: Global, record: Record<'a>) -> Result<Option<usize>, AllocError> {
         let wrong = self.wrong(record);
         if wrong.is_some() {
             return Ok(wrong);
         }
         match record.mark {
             b"PN" => self.patterns.push(record.bytes)?,
-            b"TX" => return self.scan(heap, record.bytes),
+            b"TX" => return self.scan(alloc, record.bytes),
             mark => self.longest = mark == b"KL",
         }
         Ok(None)
     }
 
     /// Reads a job, and answers its fault.
-    fn read(&mut self, heap: Global, job: &'a [u8]) -> Result<Option<Fault>, AllocError> {
+    fn read(&mut self, alloc: Global, job: &'a [u8]) -> Result<Option<Fault>, AllocError> {
         if job.len() > 65536 {
             return Ok(Some(Fault {
                 number: 10,
@@ -230,7 +235,7 @@ impl<'a> Model<'a> {
             let Some(record) = head(rest) else {
                 return Ok(Some(Fault { number: 11, place }));
             };
-            if let Some(number) = self.take(heap, record)? {
+            if let Some(number) = self.take(alloc, record)? {
                 return Ok(Some(Fault { number, place }));
             }
             rest = record.rest;
@@ -245,26 +250,31 @@ impl<'a> Model<'a> {
     }
 
     /// Prints the number of texts and the tallies.
-    fn print_tallies(&self, heap: Global, out: &mut Vec<u8>) -> Result<(), AllocError> {
-        line(heap, out, b"texts", &[self.texts])?;
+    fn print_tallies(&self, alloc: Global, out: &mut Vec<u8>) -> Result<(), AllocError> {
+        line(alloc, out, b"texts", &[self.texts])?;
         for id in 0..self.patterns.len() {
             let tally = self.hits.iter().filter(|hit| hit.id == id).count();
-            line(heap, out, b"tally", &[id, tally])?;
+            line(alloc, out, b"tally", &[id, tally])?;
         }
         Ok(())
     }
 
     /// Prints what was read.
-    fn print(&self, heap: Global, fault: Option<Fault>) -> Result<Vec<u8>, AllocError> {
-        let mut out = Vec::new(heap);
+    fn print(&self, alloc: Global, fault: Option<Fault>) -> Result<Vec<u8>, AllocError> {
+        let mut out = Vec::new(alloc);
         out.extend_from_slice(b"text start end id\n")?;
         for hit in &self.hits {
-            line(heap, &mut out, b"", &[hit.text, hit.start, hit.end, hit.id])?;
+            line(
+                alloc,
+                &mut out,
+                b"",
+                &[hit.text, hit.start, hit.end, hit.id],
+            )?;
         }
         match fault {
-            None => self.print_tallies(heap, &mut out)?,
+            None => self.print_tallies(alloc, &mut out)?,
             Some(fault) => line(
-                heap,
+                alloc,
                 &mut out,
                 b"fault",
                 &[fault.number, fault.place, layer(fault.number)],
@@ -275,11 +285,11 @@ impl<'a> Model<'a> {
 }
 
 /// What must be printed of a job.
-pub(crate) fn expect(heap: Global, job: &[u8]) -> Result<Expected, AllocError> {
-    let mut model = Model::new(heap);
-    let fault = model.read(heap, job)?;
+pub(crate) fn expect(alloc: Global, job: &[u8]) -> Result<Expected, AllocError> {
+    let mut model = Model::new(alloc);
+    let fault = model.read(alloc, job)?;
     Ok(Expected {
-        printed: model.print(heap, fault)?,
+        printed: model.print(alloc, fault)?,
         texts: model.texts,
         hits: model.hits.len(),
         fault: fault.map(|fault| fault.number),

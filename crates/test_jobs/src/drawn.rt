@@ -1,7 +1,5 @@
-//! Runs many drawn jobs, and compares what is printed of each with what a plain model of the rules says. The first job for
-//! which they differ is printed in hex with both. The argument, if there is one, says how many jobs are drawn.
-
-#![tactic(auto)]
+//! Drawn jobs beside a plain model of the rules. The first job for which they differ is printed in hex, with what is printed
+//! of it and what the model says.
 
 use account::{Account, report, run, run_with};
 use anyhow::ensure;
@@ -9,8 +7,6 @@ use finder::Plain;
 use model::Expected;
 use rabinkarp::RabinKarp;
 use random::Random;
-use std::env;
-use std::rt::Env;
 use totals::Totals;
 
 mod bounds;
@@ -20,17 +16,6 @@ mod model;
 mod random;
 mod record;
 mod totals;
-
-/// How many jobs are drawn where no number is given: few enough for `rt try`, which runs a program some hundred times slower.
-const JOBS: usize = 500;
-
-/// How many jobs are to be drawn, besides those at the bounds.
-fn job_count(rt: &(impl Env + AllocGlobal)) -> anyhow::Result<usize> {
-    match env::args(rt)?.nth(1) {
-        Some(number) => Ok(number.as_str().parse::<usize>()?),
-        None => Ok(JOBS),
-    }
-}
 
 /// Prints a job in hex, what the model says of it, and what is printed of it instead.
 fn show(
@@ -73,37 +58,38 @@ fn compare(
 
 /// Runs a job through the model, and then as `pnscan` does, with the plain searcher and with the rolling hash.
 fn try_job(rt: &(impl Print + AllocGlobal), totals: &mut Totals, job: &[u8]) -> anyhow::Result<()> {
-    let heap = rt.alloc();
-    let expected = model::expect(heap, job)?;
+    let alloc = rt.alloc();
+    let expected = model::expect(alloc, job)?;
     totals.note(&expected);
-    compare(rt, totals, job, &expected, &run(heap, job))?;
+    compare(rt, totals, job, &expected, &run(alloc, job))?;
     compare(
         rt,
         totals,
         job,
         &expected,
-        &run_with::<Plain>(heap, job, ()),
+        &run_with::<Plain>(alloc, job, ()),
     )?;
     compare(
         rt,
         totals,
         job,
         &expected,
-        &run_with::<RabinKarp>(heap, job, ()),
+        &run_with::<RabinKarp>(alloc, job, ()),
     )
 }
 
-fn main(rt: HostRuntime) -> anyhow::Result<()> {
-    let heap = rt.alloc();
+/// Runs so many drawn jobs, and those at the bounds.
+pub(crate) fn run_all(rt: &(impl Print + AllocGlobal), count: usize) -> anyhow::Result<()> {
+    let alloc = rt.alloc();
     let mut random = Random::new();
     let mut totals = Totals::new();
-    for _ in 0..job_count(&rt)? {
-        let job = drawing::job(heap, &mut random)?;
-        let job = damage::perhaps(heap, &mut random, job)?;
-        try_job(&rt, &mut totals, &job)?;
+    for _ in 0..count {
+        let job = drawing::job(alloc, &mut random)?;
+        let job = damage::perhaps(alloc, &mut random, job)?;
+        try_job(rt, &mut totals, &job)?;
     }
-    for job in &bounds::jobs(heap, &mut random)? {
-        try_job(&rt, &mut totals, job)?;
+    for job in &bounds::jobs(alloc, &mut random)? {
+        try_job(rt, &mut totals, job)?;
     }
     println!(rt; "{totals}")?;
     ensure!(totals.disagreements == 0, "the model says otherwise");

@@ -1,0 +1,52 @@
+#!/usr/bin/env python3
+"""Writes the lines of the file stdout that tell of drawn books, by a plain model: the generator of `test_random`, and where
+a pattern stands. Run it in the folder of the crate."""
+import re
+
+ALL = b'ABCDEFGHIJKLMNOPQRSTUVWXYZ'
+SHAPES = [
+    (0, 1, 1, b'AB'), (3, 1, 3, b'AB'), (12, 2, 6, b'ABC'), (200, 3, 4, ALL), (1024, 4, 8, b'ABCD'),
+    (8, 63, 4, b'AB'), (8, 64, 4, b'AB'), (8, 65, 4, b'AB'), (8, 300, 20, ALL),
+]
+state = 88172645463325252
+
+
+def below(n):
+    global state
+    state ^= state << 13 & (1 << 64) - 1
+    state ^= state >> 7
+    state ^= state << 17 & (1 << 64) - 1
+    return state % n if n else 0
+
+
+def word(letters, length):
+    return bytes(letters[below(len(letters))] for _ in range(length))
+
+
+def text_of(patterns, letters):
+    """Letters, with patterns among them, each by its number in the order in which they are read."""
+    text = b''
+    for _ in range(60):
+        text += word(letters, below(6))
+        number = below(len(patterns))
+        text += b''.join(patterns[number:number + 1])
+    return text
+
+
+def hits_of(count, shortest, spread, letters):
+    """At how many places of some texts a search finds a hit: at those up to the last one at which a pattern begins."""
+    hits = 0
+    for _ in range(5):
+        for longest in (False, True):
+            patterns = [word(letters, shortest + below(spread)) for _ in range(count)]
+            if longest:
+                patterns.sort(key=len, reverse=True)  # equal lengths stay as they were entered
+            text = text_of(patterns, letters)
+            hits += max((text.rfind(pattern) for pattern in patterns), default=-1) + 1
+    return hits
+
+
+lines = iter([f'{count} patterns from {shortest} bytes on: {hits_of(count, shortest, *rest)} hits, the same'
+              for count, shortest, *rest in SHAPES])
+printed = open('stdout').read()
+open('stdout', 'w').write(re.sub(r'(?m)^\d+ patterns from .*', lambda _: next(lines), printed))
