@@ -5,8 +5,8 @@ import re
 
 ALL = b'ABCDEFGHIJKLMNOPQRSTUVWXYZ'
 SHAPES = [
-    (0, 1, 1, b'AB'), (3, 1, 3, b'AB'), (12, 2, 6, b'ABC'), (200, 3, 4, ALL), (1024, 4, 8, b'ABCD'),
-    (8, 63, 4, b'AB'), (8, 64, 4, b'AB'), (8, 65, 4, b'AB'), (8, 300, 20, ALL),
+    (0, 1, 1, b'AB'), (3, 1, 3, b'AB'), (12, 2, 7, b'ABC'), (200, 3, 6, ALL), (1024, 4, 11, b'ABCD'),
+    (8, 63, 66, b'AB'), (8, 64, 67, b'AB'), (8, 65, 68, b'AB'), (8, 300, 319, ALL),
 ]
 state = 88172645463325252
 
@@ -33,13 +33,13 @@ def text_of(patterns, letters):
     return text
 
 
-def hits_of(count, shortest, spread, letters):
+def hits_of(count, shortest, longest, letters):
     """At how many places of some texts a search finds a hit: at those up to the last one at which a pattern begins."""
     hits = 0
     for _ in range(5):
-        for longest in (False, True):
-            patterns = [word(letters, shortest + below(spread)) for _ in range(count)]
-            if longest:
+        for first_entered in (True, False):
+            patterns = [word(letters, shortest + below(longest - shortest + 1)) for _ in range(count)]
+            if not first_entered:
                 patterns.sort(key=len, reverse=True)  # equal lengths stay as they were entered
             text = text_of(patterns, letters)
             hits += max((text.rfind(pattern) for pattern in patterns), default=-1) + 1

@@ -1,5 +1,6 @@
 //! The searchers beside one another: the rolling hash beside the plain searcher, on small cases and on many drawn books and
-//! texts; then the masks over every kind of vectors, with every mask count, beside both.
+//! texts; then the masks over every kind of vectors, with every mask count, beside both. The argument, if there is one, names
+//! the part that is run alone.
 
 #![tactic(auto)]
 
@@ -8,7 +9,16 @@ mod masks;
 mod random;
 mod rolling;
 
+use std::env;
+
 fn main(rt: HostRuntime) -> anyhow::Result<()> {
-    rolling::run(&rt)?;
-    masks::run(&rt)
+    let only = env::args(&rt)?.nth(1);
+    let is_wanted = |part: &str| only.as_ref().is_none_or(|name| name.as_str() == part);
+    if is_wanted("rolling") {
+        rolling::run(&rt)?;
+    }
+    if is_wanted("masks") {
+        masks::run(&rt)?;
+    }
+    Ok(())
 }

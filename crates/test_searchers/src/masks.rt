@@ -188,8 +188,8 @@ const LETTERS: &[u8; 3] = b"AQb";
 /// Whether all searchers agree on one drawn book, text and place.
 fn drawn_agree(alloc: Global, random: &mut Random) -> Result<bool, Fault> {
     let mut open = Patterns::new(alloc);
-    for _ in 0..1 + random.below(12) {
-        let len = 1 + random.below(7);
+    for _ in 0..random.between(1, 12) {
+        let len = random.between(1, 7);
         open.add(&random.word(alloc, LETTERS, len)?)?;
     }
     if random.below(2) == 0 {

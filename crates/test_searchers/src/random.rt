@@ -19,6 +19,12 @@ impl Random {
         (self.numbers.next() as usize).checked_rem(n).unwrap_or(0)
     }
 
+    /// A number from `low` to `high`, both among them.
+    pub(crate) fn between(&mut self, low: usize, high: usize) -> usize {
+        let spread = high.saturating_sub(low).saturating_add(1);
+        low.saturating_add(self.below(spread))
+    }
+
     /// A word of so many of the letters.
     pub(crate) fn word(
         &mut self,

@@ -10,12 +10,12 @@ use rules::MatchKind;
 use std::alloc::Global;
 use std::rc::Rc;
 
-/// Books of one shape: `count` patterns of `shortest` bytes and fewer than `spread` more, over some letters.
+/// Books of one shape: so many patterns, with lengths from `shortest` to `longest`, over some letters.
 #[derive(Clone, Copy)]
 struct Shape {
     count: usize,
     shortest: usize,
-    spread: usize,
+    longest: usize,
     letters: &'static [u8],
 }
 
@@ -28,7 +28,7 @@ fn drawn_book(
     let mut patterns = Patterns::new(alloc);
     patterns.set_match_kind(kind);
     for _ in 0..shape.count {
-        let len = shape.shortest.saturating_add(random.below(shape.spread));
+        let len = random.between(shape.shortest, shape.longest);
         patterns.add(&random.word(alloc, shape.letters, len)?)?;
     }
     Ok(Rc::new(alloc, patterns.close())?)
@@ -112,19 +112,19 @@ pub(crate) fn run(rt: &(impl Print + AllocGlobal)) -> anyhow::Result<()> {
     let shapes: [(usize, usize, usize, &'static [u8]); 9] = [
         (0, 1, 1, b"AB"),
         (3, 1, 3, b"AB"),
-        (12, 2, 6, b"ABC"),
-        (200, 3, 4, all),
-        (1024, 4, 8, b"ABCD"),
-        (8, 63, 4, b"AB"),
-        (8, 64, 4, b"AB"),
-        (8, 65, 4, b"AB"),
-        (8, 300, 20, all),
+        (12, 2, 7, b"ABC"),
+        (200, 3, 6, all),
+        (1024, 4, 11, b"ABCD"),
+        (8, 63, 66, b"AB"),
+        (8, 64, 67, b"AB"),
+        (8, 65, 68, b"AB"),
+        (8, 300, 319, all),
     ];
-    for (count, shortest, spread, letters) in shapes {
+    for (count, shortest, longest, letters) in shapes {
         let shape = Shape {
             count,
             shortest,
-            spread,
+            longest,
             letters,
         };
         let hits = hits_of(rt.alloc(), &mut random, &shape)?;
