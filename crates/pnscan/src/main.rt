@@ -10,11 +10,11 @@ use std::io::Read;
 const LIMIT: u64 = MAX_JOB as u64 + 1;
 
 fn main(rt: HostRuntime) -> anyhow::Result<()> {
-    let heap = rt.alloc();
-    let mut job = Vec::new(heap);
+    let alloc = rt.alloc();
+    let mut job = Vec::new(alloc);
     rt.stdin().take(LIMIT).read_to_end(&mut job)?;
-    let account = run(heap, job.as_slice());
-    let text = report(heap, &account)?;
+    let account = run(alloc, job.as_slice());
+    let text = report(alloc, &account)?;
     rt.print(text.as_str())?;
     account.end?;
     Ok(())
