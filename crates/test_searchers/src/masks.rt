@@ -2,10 +2,10 @@
 
 ghost use Rattle.std.specs.Prelude.{◌≤◌, IfOk};
 
-use crate::book::closed;
+use crate::book::{Shape, closed, drawn};
 use crate::random::Random;
 use finder::{Finder, Plain};
-use pattern::{Book, Patterns};
+use pattern::Book;
 use rabinkarp::RabinKarp;
 use rules::MatchKind::{LeftmostFirst, LeftmostLongest};
 use rules::{Fault, Match, MatchKind};
@@ -187,15 +187,18 @@ const LETTERS: &[u8; 3] = b"AQb";
 
 /// Whether all searchers agree on one drawn book, text and place.
 fn drawn_agree(alloc: Global, random: &mut Random) -> Result<bool, Fault> {
-    let mut open = Patterns::new(alloc);
-    for _ in 0..random.between(1, 12) {
-        let len = random.between(1, 7);
-        open.add(&random.word(alloc, LETTERS, len)?)?;
-    }
-    if random.below(2) == 0 {
-        open.set_match_kind(LeftmostLongest);
-    }
-    let book = Rc::new(alloc, open.close())?;
+    let shape = Shape {
+        count: random.between(1, 12),
+        shortest: 1,
+        longest: 7,
+        letters: LETTERS,
+    };
+    let kind = if random.below(2) == 0 {
+        LeftmostLongest
+    } else {
+        LeftmostFirst
+    };
+    let book = drawn(alloc, random, &shape, kind)?;
     let len = random.below(90);
     let text = random.word(alloc, LETTERS, len)?;
     let at = random.below(40);

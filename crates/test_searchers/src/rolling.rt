@@ -1,38 +1,13 @@
 //! The rolling hash beside the plain searcher.
 
-use crate::book::closed;
+use crate::book::{Shape, closed, drawn};
 use crate::random::Random;
 use anyhow::ensure;
 use finder::{Finder, Plain};
-use pattern::{Book, Patterns};
+use pattern::Book;
 use rabinkarp::{RabinKarp, hash, hash_2pow, update_hash};
 use rules::MatchKind;
 use std::alloc::Global;
-use std::rc::Rc;
-
-/// Books of one shape: so many patterns, with lengths from `shortest` to `longest`, over some letters.
-#[derive(Clone, Copy)]
-struct Shape {
-    count: usize,
-    shortest: usize,
-    longest: usize,
-    letters: &'static [u8],
-}
-
-fn drawn_book(
-    alloc: Global,
-    random: &mut Random,
-    shape: &Shape,
-    kind: MatchKind,
-) -> anyhow::Result<Rc<Book>> {
-    let mut patterns = Patterns::new(alloc);
-    patterns.set_match_kind(kind);
-    for _ in 0..shape.count {
-        let len = random.between(shape.shortest, shape.longest);
-        patterns.add(&random.word(alloc, shape.letters, len)?)?;
-    }
-    Ok(Rc::new(alloc, patterns.close())?)
-}
 
 /// Letters, with patterns of the book among them.
 fn drawn_text(
@@ -72,12 +47,12 @@ fn hits(plain: &Plain, rolling: &RabinKarp, text: &[u8]) -> anyhow::Result<usize
     )
 }
 
-/// The same over some books of a shape, of each kind, and a text for each.
+/// At how many places both find a hit, over some books of a shape, of each kind, and a text for each.
 fn hits_of(alloc: Global, random: &mut Random, shape: &Shape) -> anyhow::Result<usize> {
     let mut all = 0usize;
     for _ in 0..5 {
         for kind in [MatchKind::LeftmostFirst, MatchKind::LeftmostLongest] {
-            let book = drawn_book(alloc, random, shape, kind)?;
+            let book = drawn(alloc, random, shape, kind)?;
             let text = drawn_text(alloc, random, &book, shape.letters)?;
             let plain = Plain::new(book.clone()?);
             let rolling = RabinKarp::new(book);
