@@ -25,20 +25,20 @@ impl Plain {
         prove!(book.len() <= MAX_PATTERNS);
         Plain { book }
     }
-}
 
-/// The match at one place: that of the first pattern, in the kind's order, which stands there.
-fn find_here(book: &Book, text: &[u8], start: usize) -> Option<Match>
-    ensures { AnswersAt book.now text.now start result }
-{
-    let order = book.order();
-    // By the index of the order table: all ids below it were tried in vain.
-    for i in 0..order.len() {
-        if let Some(hit) = verify(book, order[i], text, start) {
-            return Some(hit);
+    /// The match at one place: that of the first pattern, in the kind's order, which stands there.
+    fn find_here(&self, text: &[u8], start: usize) -> Option<Match>
+        ensures { AnswersAt self.now.book.value text.now start result }
+    {
+        let order = self.book.order();
+        // By the index of the order table: all ids below it were tried in vain.
+        for i in 0..order.len() {
+            if let Some(hit) = verify(&self.book, order[i], text, start) {
+                return Some(hit);
+            }
         }
+        None
     }
-    None
 }
 
 impl Finder for Plain {
@@ -51,9 +51,10 @@ impl Finder for Plain {
     }
 
     /// Tries place after place.
+    #[tactic(auto, using(crate::proofs::Places::found_here, crate::proofs::Places::found_next, crate::proofs::Places::found_end))]
     fn find(&self, text: &[u8], at: usize) -> Option<Match> {
         for start in at..text.len() {
-            if let Some(hit) = find_here(&self.book, text, start) {
+            if let Some(hit) = self.find_here(text, start) {
                 return Some(hit);
             }
         }

@@ -1,7 +1,0 @@
-use Rattle.std.proofs.Common.{ℕ, ◌<◌, get_or}
-use Rattle.rules.specs.Search.{OccursAt}
-use Rattle.pattern.specs.Order.{order_in}
-use Rattle.finder.proofs.plain.find_here.Given as goal
-
-abbrev pub invariant-loop-i : goal.invariant-loop-i
-invariant-loop-i l = (j : ℕ) → j < l.i → OccursAt l.book l.text (get_or (order_in l.book) j 0) l.start → ⊥
