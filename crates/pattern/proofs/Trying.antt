@@ -65,6 +65,5 @@ reading_order b =
     let h = tried b b.kind in
     record { long = h.long; known = h.known; all = h.all; preferred = h.preferred }
 
--- and so have the ids that a closed book lends
 pub ordered : (b : Book) (ids : List ℕ) → ids ≡ order_in b → ReadingOrder b ids
 ordered b ids e = rw e (reading_order b)

@@ -86,10 +86,7 @@ impl Book {
         ensures order { ReadingOrder self.now result.now }
         ensures within { Within self.now }
     {
-        match self.table.kind {
-            MatchKind::LeftmostFirst => self.table.entered.as_slice(),
-            MatchKind::LeftmostLongest => self.table.order.as_slice(),
-        }
+        self.table.order()
     }
 
     /// The bytes of a pattern; no bytes for an id that the book lacks.

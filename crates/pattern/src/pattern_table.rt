@@ -2,6 +2,7 @@ ghost use Rattle.std.specs.Prelude.{◌≡◌, ◌+◌, ◌<◌, ◌≤◌, leng
 ghost use Rattle.rules.specs.Limits.{max_patterns, max_bytes};
 ghost use Rattle.rules.specs.Book.{count_of, pattern, total};
 ghost use Rattle.rules.specs.Entered.{enter};
+ghost use Rattle.pattern.specs.Order.{order_in, ReadingOrder};
 ghost use Rattle.pattern.specs.Contents.{contents, Sound};
 
 use rules::{MatchKind, PatternID};
@@ -51,6 +52,18 @@ impl PatternTable {
         self.minimum_len = self.minimum_len.min(bytes.len());
         self.total_pattern_bytes += bytes.len();
         Ok(id)
+    }
+
+    /// Every id, in the order of the kind.
+    pub(crate) fn order(&self) -> &[PatternID]
+        requires { Sound self.now }
+        ensures same { result.now ≡ order_in (contents self.now) }
+        ensures order { ReadingOrder (contents self.now) result.now }
+    {
+        match self.kind {
+            MatchKind::LeftmostFirst => self.entered.as_slice(),
+            MatchKind::LeftmostLongest => self.order.as_slice(),
+        }
     }
 
     /// The bytes of a pattern; none for an id that is not in. `Book::get` lends them too, but `enter` has no book.

@@ -1,9 +1,0 @@
-use Rattle.std.proofs.Common.{rules}
-use Rattle.pattern.proofs.Trying.{ordered}
-use Rattle.pattern.proofs.book.Book.order.Goals as goal
-
-pub returns-in-LeftmostFirst-clause-order : goal.returns-in-LeftmostFirst-clause-order
-returns-in-LeftmostFirst-clause-order c = ordered c.args.self.now _ (search rules)
-
-pub returns-in-LeftmostLongest-clause-order : goal.returns-in-LeftmostLongest-clause-order
-returns-in-LeftmostLongest-clause-order c = ordered c.args.self.now _ (search rules)
