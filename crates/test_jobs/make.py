@@ -1,6 +1,7 @@
 #!/usr/bin/env python3
 """Writes the stored jobs and what each must print, by a plain model of the rules: data/NAME.job and data/NAME.out, and
-their names in data/names; and the file stdout. Those of examples/ are among them. Run it in the folder of the crate."""
+their names in data/names; and the file stdout, of which the last line stays, which tells of the drawn jobs. Those of
+examples/ are among them. Run it in the folder of the crate."""
 import glob
 import os
 import random
@@ -143,5 +144,6 @@ open('data/names', 'w').write(''.join(f'{name}\n' for name in jobs))
 for name, job in jobs.items():
     open(f'data/{name}.job', 'wb').write(job)
     open(f'data/{name}.out', 'w').write('\n'.join(run(job)) + '\n')
-open('stdout', 'w').write(''.join(f'{name} ok\n' for name in jobs))
+of_drawn = open('stdout').readlines()[-1]
+open('stdout', 'w').write(''.join(f'{name} ok\n' for name in jobs) + of_drawn)
 print(len(jobs), 'jobs')
