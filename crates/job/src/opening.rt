@@ -74,6 +74,7 @@ pub struct Opened<'a> {
 
 /// Reads a job up to its first text, and closes its book there, or else at the job's end. It answers the first fault up to there,
 /// or want of memory for a pattern that would have been entered.
+#[tactic(auto, using(crate::proofs::Closings::closing_fault))]
 pub fn open<'a>(alloc: Global, job: &'a [u8]) -> Result<Opened<'a>, Fault>
     ensures book { IfOk result (λ o. opened job.now ≡ Ok o.book) }
     ensures job { IfOk result (λ o. o.texts.job.now ≡ job.now) }
