@@ -15,8 +15,8 @@ use Rattle.rules.specs.Faults.{refused}
 use Rattle.job.specs.Format.{Entry, a_pattern, kind_first, kind_longest, a_text, over, bad, good, step}
 use Rattle.job.specs.Reading.{Item, Reading, item, put, reading}
 use Rattle.job.specs.Texts.{is_text, heading, texts_from, texts, place_of, texts_at}
-use Rattle.job.specs.Opening.{entered_or, takes, and_then, fill, closes, closed_at, opening, opened}
-use Rattle.job.specs.Memory.{MemoryFaultAt, MemoryFaultAmong, MemoryFault, Refuses}
+use Rattle.job.specs.Opening.{entered_or, takes, and_then, fill, closes, closed_at, opening, read_book, opened}
+use Rattle.job.specs.Memory.{MemoryFaultAt, MemoryFaultAmong, MemoryFaultIn, MemoryFault, Refuses}
 use Rattle.job.proofs.Steps.{step_next, step_end}
 use Rattle.job.proofs.Readings.{reading_good, reading_bad, reading_over}
 
@@ -66,13 +66,13 @@ refuses_step b at e r n f other (inr w) = inr (lacks_here b at e r f w)
 -- Records of a job are being entered: b is the book so far, and at is the place of the next record.
 pub record Filling (job : List ℕ) (b : Book) (at : ℕ) : Type 0 where
   pub within : at ≤ length job
-  pub book : opening empty (reading job 0) (length job) ≡ opening b (reading job at) (length job)
+  pub book : read_book job ≡ opening b (reading job at) (length job)
   pub left : texts (reading job 0) ≡ texts (reading job at)
-  pub memory : (f : Fault) → MemoryFaultAmong b (heading (reading job at).items) f → MemoryFaultAmong empty (heading (reading job 0).items) f
+  pub memory : (f : Fault) → MemoryFaultAmong b (heading (reading job at).items) f → MemoryFaultIn job f
 
 -- All records before the first text are: b is the book with them, and at is the place of that text, or the job's length.
 pub record AllFilled (job : List ℕ) (b : Book) (at : ℕ) : Type 0 where
-  pub book : opening empty (reading job 0) (length job) ≡ closes b at
+  pub book : read_book job ≡ closes b at
   pub left : reading job at ≡ texts (reading job 0)
   pub place : at ≡ texts_at job
 
@@ -106,7 +106,7 @@ module _ (job : List ℕ) (b : Book) (at : ℕ) (i : Filling job b at) where
       }
 
   -- it is not taken
-  pub fill_fault : (e : Entry) (next : ℕ) (f : Fault) → step job at ≡ good e next → is_text e ≡ false → Refuses (takes b at e) (MemoryFaultAt b at e) f → Refuses (opening empty (reading job 0) (length job)) (MemoryFaultAmong empty (heading (reading job 0).items)) f
+  pub fill_fault : (e : Entry) (next : ℕ) (f : Fault) → step job at ≡ good e next → is_text e ≡ false → Refuses (takes b at e) (MemoryFaultAt b at e) f → Refuses (read_book job) (MemoryFaultIn job) f
   fill_fault e next f h other r =
       let is = reading_good job at next e h in
       elim (refuses_step b at e (reading job next) (length job) f other r) [
@@ -115,7 +115,7 @@ module _ (job : List ℕ) (b : Book) (at : ℕ) (i : Filling job b at) where
       ]
 
   -- it is refused
-  pub fill_bad : (r : Refusal) → step job at ≡ bad r → opening empty (reading job 0) (length job) ≡ Err (refused at r)
+  pub fill_bad : (r : Refusal) → step job at ≡ bad r → read_book job ≡ Err (refused at r)
   fill_bad r h = i.book ∙ ap (λ x. opening b x (length job)) (reading_bad job at r i.within h)
 
   -- there is none

@@ -1,7 +1,8 @@
 -- Want of memory, which a defined answer leaves out: where it may come in place of that answer.
 -- MemoryFaultAt b at e f   f is want of memory, at a place, for the record e there: a pattern that the open book b does not refuse
 -- MemoryFaultAmong b is f  f is want of memory for one of the records is, all before it being taken into the open book b
--- MemoryFault job f        f is want of memory for a pattern before a job's first text, before which nothing is refused
+-- MemoryFaultIn job f      f is want of memory for a pattern before a job's first text, before which nothing is refused
+-- MemoryFault job f        the same of a job that may be too long, and is then refused before any memory is wanted
 -- Refuses d w f            the fault f is the one of the defined answer d, or want of memory as w says
 use Rattle.std.specs.Prelude.{◌≡◌, ℕ, ◌≤◌, ◌⊎◌, List, [], ◌∷◌, length, None, Ok, Err, Result}
 use Rattle.rules.specs.declared.fault.Fault.{Fault}
@@ -29,9 +30,11 @@ MemoryFaultAmong b (i ∷ is) f =
     MemoryFaultAt b i.place i.entry f
     ⊎ ((c : Book) × (takes b i.place i.entry ≡ Ok c) × MemoryFaultAmong c is f)
 
--- a job that is too long is refused before any memory is wanted
+abbrev pub MemoryFaultIn : List ℕ → Fault → Type 0
+MemoryFaultIn job f = MemoryFaultAmong empty (heading (reading job 0).items) f
+
 abbrev pub MemoryFault : List ℕ → Fault → Type 0
-MemoryFault job f = (length job ≤ max_job) × MemoryFaultAmong empty (heading (reading job 0).items) f
+MemoryFault job f = (length job ≤ max_job) × MemoryFaultIn job f
 
 abbrev pub Refuses : {X : Type 0} → Result X Fault → (Fault → Type 0) → Fault → Type 0
 Refuses d w f = (d ≡ Err f) ⊎ w f

@@ -6,7 +6,8 @@
 -- closes b at           the open book b closed at a place, or the refusal of a book without patterns
 -- closed_at b is s n    the open book b closed at the first of the texts is; without one at the end n, unless reading stops before, at the fault s
 -- opening b r n         the book of a job of n bytes, where b is the open book so far and r is what is left to read, or the first fault
--- opened job            the book of a job, or the first fault up to its first text
+-- read_book job         the book of what is read of a job, or the first fault up to its first text
+-- opened job            the same of a job that may be too long
 use Rattle.std.specs.Prelude.{ℕ, List, [], ◌∷◌, length, Some, None, Ok, Err, Option, Result, ◌==◌, nat_lt, if◌then◌else◌}
 use Rattle.rules.specs.declared.fault.Fault.{Fault}
 use Rattle.rules.specs.declared.fault.Refusal.{Refusal}
@@ -51,7 +52,8 @@ closed_at b [] None n = closes b n
 abbrev pub opening : Book → Reading → ℕ → Result Book Fault
 opening b r n = and_then (fill b (heading r.items)) (λ c. closed_at c (texts_from r.items) r.stop n)
 
+abbrev pub read_book : List ℕ → Result Book Fault
+read_book job = opening empty (reading job 0) (length job)
+
 abbrev pub opened : List ℕ → Result Book Fault
-opened job =
-    if nat_lt max_job (length job) then Err (refused 0 JobTooLong)
-    else opening empty (reading job 0) (length job)
+opened job = if nat_lt max_job (length job) then Err (refused 0 JobTooLong) else read_book job

@@ -1,10 +1,10 @@
-ghost use Rattle.std.specs.Prelude.{◌≡◌, length, Ok, OnOk, IfOk, IfErr};
-ghost use Rattle.pattern.specs.Contents.{empty};
+ghost use Rattle.std.specs.Prelude.{◌≡◌, Ok, OnOk, IfOk, IfErr};
+ghost use Rattle.rules.specs.Book.{Within};
 ghost use Rattle.job.specs.Record.{entry};
 ghost use Rattle.job.specs.Reading.{reading};
-ghost use Rattle.job.specs.Texts.{heading, texts, texts_at};
-ghost use Rattle.job.specs.Opening.{takes, closes, opening, opened};
-ghost use Rattle.job.specs.Memory.{MemoryFaultAt, MemoryFaultAmong, MemoryFault, Refuses};
+ghost use Rattle.job.specs.Texts.{texts, texts_at};
+ghost use Rattle.job.specs.Opening.{takes, closes, read_book, opened};
+ghost use Rattle.job.specs.Memory.{MemoryFaultAt, MemoryFaultIn, MemoryFault, Refuses};
 
 use crate::reader::Reader;
 use crate::record::Record;
@@ -27,7 +27,8 @@ struct Filled {
 #[tactic(auto, using(crate::proofs::Openings::lacks_or))]
 fn take(patterns: &mut Patterns, place: usize, it: Record<'_>) -> Result<(), Fault>
     ensures ok { OnOk result (takes patterns.old place (entry it.entry) ≡ Ok patterns.new) }
-    ensures err { IfErr result (Refuses (takes patterns.old place (entry it.entry)) (MemoryFaultAt patterns.old place (entry it.entry))) }
+    ensures err { IfErr result (Refuses (takes patterns.old place (entry it.entry))
+        (MemoryFaultAt patterns.old place (entry it.entry))) }
 {
     match it {
         Record::Pattern(bytes) => {
@@ -42,10 +43,10 @@ fn take(patterns: &mut Patterns, place: usize, it: Record<'_>) -> Result<(), Fau
 
 /// Enters the records up to the first text.
 fn fill(alloc: Global, job: &[u8]) -> Result<Filled, Fault>
-    ensures book { IfOk result (λ f. opening empty (reading job.now 0) (length job.now) ≡ closes f.patterns f.at) }
+    ensures book { IfOk result (λ f. read_book job.now ≡ closes f.patterns f.at) }
     ensures left { IfOk result (λ f. reading job.now f.at ≡ texts (reading job.now 0)) }
     ensures at { IfOk result (λ f. f.at ≡ texts_at job.now) }
-    ensures err { IfErr result (Refuses (opening empty (reading job.now 0) (length job.now)) (MemoryFaultAmong empty (heading (reading job.now 0).items))) }
+    ensures err { IfErr result (Refuses (read_book job.now) (MemoryFaultIn job.now)) }
 {
     let mut patterns = Patterns::new(alloc);
     let mut reader = Reader::new(job);
@@ -77,6 +78,7 @@ pub struct Opened<'a> {
 #[tactic(auto, using(crate::proofs::Closings::closing_fault))]
 pub fn open<'a>(alloc: Global, job: &'a [u8]) -> Result<Opened<'a>, Fault>
     ensures book { IfOk result (λ o. opened job.now ≡ Ok o.book) }
+    ensures within { IfOk result (λ o. Within o.book) }
     ensures job { IfOk result (λ o. o.texts.job.now ≡ job.now) }
     ensures left { IfOk result (λ o. reading job.now o.texts.at ≡ texts (reading job.now 0)) }
     ensures at { IfOk result (λ o. o.texts.at ≡ texts_at job.now) }
