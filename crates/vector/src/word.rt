@@ -14,7 +14,7 @@ pub struct WordHalf {
     high: u64,
 }
 
-#[tactic(auto, using(crate::proofs::Words::words))]
+#[tactic(auto, using(crate::proofs::PackedWords::words))]
 impl WordHalf {
     // `pack` and `unpack` are private, which a `From` would not be.
     fn pack(lanes: ArrayHalf) -> WordHalf
@@ -37,7 +37,7 @@ impl WordHalf {
     }
 }
 
-#[tactic(auto, using(crate::proofs::Words::words))]
+#[tactic(auto, using(crate::proofs::PackedWords::words))]
 impl Half for WordHalf {
     ghost lanes = { held };
 
