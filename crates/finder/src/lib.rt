@@ -1,4 +1,17 @@
-//! Searchers over a closed book.
+//! What a searcher is, and the one that tries everything.
+//!
+//! A [`Finder`] means a closed book, and finds the first hit in a text from a place on. A [`Searcher`] is a finder that can be made of
+//! a closed book. Code that takes any of them knows what is found, and by whom it is found is no matter: [`Plain`] tries each place and
+//! each pattern in order; the searchers of other crates pass over most places, and call [`verify`] at the others.
+//!
+//! ```
+//! let book = Rc::new(alloc, patterns.close())?;
+//! let plain = Plain::new(book);
+//! let mut at = 0;
+//! while let Some(hit) = plain.find(text, at) {
+//!     at = hit.end; // text[hit.start..hit.end] is the pattern hit.pattern
+//! }
+//! ```
 
 #![tactic(auto)]
 
@@ -7,7 +20,7 @@ mod finder;
 mod plain;
 mod searcher;
 
-pub use compare::{stands, verify};
+pub use compare::verify;
 pub use finder::Finder;
 pub use plain::Plain;
 pub use searcher::Searcher;

@@ -10,7 +10,7 @@ use rules::Match;
 use std::rc::Rc;
 
 /// The searcher that tries each place and each pattern in order.
-#[derive(Drop)]
+#[derive(Debug, Drop)]
 pub struct Plain {
     book: Rc<Book>,
     ghost within: { Within book.value },

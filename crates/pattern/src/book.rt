@@ -9,8 +9,9 @@ use rules::{MatchKind, PatternID};
 use std::alloc::Global;
 use std::marker::Model;
 
-/// A closed book, which searchers read. A contract sees it as the book of the rules.
-#[derive(Drop)]
+/// A closed book, which searchers read: patterns, of which the same may come twice, and a kind. A contract sees it as the book of
+/// the rules.
+#[derive(Debug, Drop)]
 pub struct Book {
     pub(crate) table: PatternTable,
 }
@@ -81,6 +82,22 @@ impl Book {
     }
 
     /// Every id, in the order in which the kind has patterns tried: a preferred one before the others.
+    ///
+    /// So a search needs not ask for the kind. One that goes through the places of a text from the left, tries all patterns at each in
+    /// this order, and stops at the first that stands there, answers rightly under either kind:
+    ///
+    /// ```
+    /// for start in at..text.len() {
+    ///     for id in book.order() {
+    ///         let pattern = book.get(*id);
+    ///         if text[start..].starts_with(pattern) {
+    ///             return Some(Match { pattern: *id, start, end: start + pattern.len() });
+    ///         }
+    ///     }
+    /// }
+    /// ```
+    ///
+    /// The other searchers answer the same, and pass over places and patterns that they know not to match.
     pub fn order(&self) -> &[PatternID]
         ensures same { result.now ≡ order_in self.now }
         ensures order { ReadingOrder self.now result.now }

@@ -9,7 +9,7 @@ use rules::{MatchKind, PatternID};
 use std::alloc::{AllocError, Global};
 
 /// The patterns by id, the ids in both orders, and what is kept of them.
-#[derive(Drop)]
+#[derive(Debug, Drop)]
 pub struct PatternTable {
     pub(crate) kind: MatchKind,
     pub(crate) by_id: Vec<Vec<u8>>,
@@ -23,6 +23,7 @@ pub struct PatternTable {
 }
 
 impl PatternTable {
+    /// Sets the kind. Both orders are kept whichever it is, so nothing else changes.
     pub(crate) fn set_kind(&mut self, kind: MatchKind)
         ensures { self.new ≡ record self.old { kind = kind } }
     {

@@ -22,7 +22,7 @@ pub const MAX_BYTES: usize = 16384;
 pub const MAX_MASKS: usize = 4;
 
 /// An open book, which takes patterns and a kind. A contract sees it as the book of the rules.
-#[derive(Drop)]
+#[derive(Debug, Drop)]
 pub struct Patterns {
     book: Book,
     alloc: Global,

@@ -11,6 +11,7 @@
 -- tally_answer s i     what a call for the tally of the pattern i answers
 -- Asked                a call, by its arguments
 -- Told                 what came back, a refusal by its number
+-- scan_of s t hs       what a scan of t into the list hs answers in the state s
 -- tells s a            what the ledger tells in the state s
 -- adds s a             its state then
 use Rattle.std.specs.Prelude.{ℕ, cond, List, [], ◌∷◌, ◌++◌, length, drop, is_ok, Ok, Err, sum_by, count_by, Result, nat_eq, nat_le, nat_lt}
@@ -65,7 +66,6 @@ pub data Told : Type 0 where
   told_scan : Result ℕ ℕ → List Match → Told
   told_tally : Result ℕ ℕ → Told
 
--- what a scan of t into the list hs answers
 abbrev pub scan_of : State → List ℕ → List Match → Result ℕ Refusal
 scan_of s t hs = scan_answer s.book (used s) t (length hs)
 

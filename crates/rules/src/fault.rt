@@ -8,7 +8,7 @@ use std::error::Error;
 use std::fmt;
 
 /// Why a call was refused. The discriminants are the numbers that are reported.
-#[derive(Clone, Copy, PartialEq, Eq, Debug)]
+#[derive(Clone, Copy, Debug, PartialEq, Eq, Hash)]
 pub enum Refusal {
     /// The pattern has no bytes.
     EmptyPattern = 1,
@@ -81,7 +81,7 @@ impl Refusal {
 }
 
 /// A refusal with the place in the job at which it came; outside a job the place is 0.
-#[derive(Clone, Copy, PartialEq, Eq, Debug)]
+#[derive(Clone, Copy, Debug, PartialEq, Eq, Hash)]
 pub struct Fault {
     pub refusal: Refusal,
     pub place: usize,
