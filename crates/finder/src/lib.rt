@@ -1,8 +1,8 @@
-//! What a searcher is, and the one that tries everything.
+//! What a searcher is, and the one that tries each pattern at each place.
 //!
 //! A [`Finder`] means a closed book, and finds the first hit in a text from a place on. A [`Searcher`] is a finder that can be made of
-//! a closed book. Code that takes any of them knows what is found, and by whom it is found is no matter: [`Plain`] tries each place and
-//! each pattern in order; the searchers of other crates pass over most places, and call [`verify`] at the others.
+//! a closed book. All of them find the same: [`Plain`] tries each place and each pattern in order, and the searchers of other crates
+//! pass over places and patterns that cannot match, and call [`verify`] for the others.
 //!
 //! ```
 //! let book = Rc::new(alloc, patterns.close())?;

@@ -83,8 +83,8 @@ impl Book {
 
     /// Every id, in the order in which the kind has patterns tried: a preferred one before the others.
     ///
-    /// So a search needs not ask for the kind. One that goes through the places of a text from the left, tries all patterns at each in
-    /// this order, and stops at the first that stands there, answers rightly under either kind:
+    /// A search need not ask for the kind. One that goes through the places of a text from the left, tries all patterns at each in this
+    /// order, and answers the first that stands there, is right under either kind:
     ///
     /// ```
     /// for start in at..text.len() {
