@@ -9,7 +9,7 @@ use Rattle.rules.specs.declared.primitives.MatchKind.{MatchKind}
 use Rattle.rules.specs.declared.primitives.MatchKind.TheVariants.{LeftmostFirst}
 use Rattle.rules.specs.Book.{Book, count_of, total, shortest, Within}
 use Rattle.pattern.specs.declared.pattern_table.PatternTable.{PatternTable}
-use Rattle.pattern.specs.Order.{first_to, longest_to}
+use Rattle.pattern.specs.Order.{first_to, longest_to, LongestOrder}
 
 abbrev pub contents : PatternTable → Book
 contents t = record { kind = t.kind; patterns = map (λ v. vec_items v) (vec_items t.by_id) }
@@ -29,6 +29,7 @@ entries t = vec_items t.entered
 pub record Sound (t : PatternTable) : Type 0 where
   pub summed : t.total_pattern_bytes ≡ total (contents t)
   pub least : t.minimum_len ≡ shortest (contents t)
-  pub ordered : longest t ≡ longest_to (contents t) (count_of (contents t))
+  pub ordered : LongestOrder (contents t) (longest t)
+  pub kept : longest t ≡ longest_to (contents t) (count_of (contents t))
   pub listed : entries t ≡ first_to (count_of (contents t))
   pub within : Within (contents t)
