@@ -4,8 +4,9 @@ use Rattle.std.proofs.Common.{sym, ap, ◌∙◌, ⊎_elim, arith, add_assoc}
 use Rattle.std.proofs.lemmas.List.{length-append, get_or_append_left, get_or-append_right, get_or_past}
 use Rattle.std.proofs.lemmas.Bool.{cases_lt}
 use Rattle.std.proofs.lemmas.Bool.Decides.{nat_tests}
-use Rattle.vector.specs.Lanes.{lane, row, splatted, loaded, anded, ored, compared, shifted_right_4, shifted_in, shuffled, number, lane64}
+use Rattle.vector.specs.Lanes.{lane, row, splatted, loaded, anded, ored, compared, shifted_right_4, shifted_in, shuffled, lanes_number, lane64}
 use Rattle.vector.proofs.Rows.{length-row, lane_row, row_is}
+use Rattle.vector.proofs.Numbers.{zero-append}
 
 -- a row of 32 from two of 16
 pub row_join : (f g h : ℕ → ℕ) → ((i : ℕ) → i < 16 → g i ≡ f i) → ((i : ℕ) → i < 16 → h i ≡ f (16 + i)) → row 16 g ++ row 16 h ≡ row 32 f
@@ -99,16 +100,16 @@ module _ (a b c d : List ℕ) (la : length a ≡ 16) (lc : length c ≡ 16) wher
 pub shifted_right_4_join : (a b : List ℕ) → length a ≡ 16 → shifted_right_4 16 a ++ shifted_right_4 16 b ≡ shifted_right_4 32 (a ++ b)
 shifted_right_4_join a b la = lanewise_join a b a b la la (λ x _. x / 16)
 
--- ---- the number that eight lanes make
-pub number_low : (a b : List ℕ) (n p : ℕ) → p + n ≤ length a → number n (a ++ b) p ≡ number n a p
-unfolding number
-number_low a b zero p h = refl
-number_low a b (suc n) p h = rw (get_or_append_left a b 0 p (omega arith), number_low a b n (p + 1) (omega arith))
+-- ---- lanes as one number
+pub lanes_number_low : (a b : List ℕ) (n p : ℕ) → p + n ≤ length a → lanes_number n (a ++ b) p ≡ lanes_number n a p
+unfolding lanes_number
+lanes_number_low a b zero p h = refl
+lanes_number_low a b (suc n) p h = rw (get_or_append_left a b 0 p (omega arith), lanes_number_low a b n (p + 1) (omega arith))
 
-pub number_high : (a b : List ℕ) → length a ≡ 16 → (n p : ℕ) → number n (a ++ b) (16 + p) ≡ number n b p
-unfolding number
-number_high a b e zero p = refl
-number_high a b e (suc n) p = rw (lane_high a b e p, add_assoc 16 p 1, number_high a b e n (p + 1))
+pub lanes_number_high : (a b : List ℕ) → length a ≡ 16 → (n p : ℕ) → lanes_number n (a ++ b) (16 + p) ≡ lanes_number n b p
+unfolding lanes_number
+lanes_number_high a b e zero p = refl
+lanes_number_high a b e (suc n) p = rw (lane_high a b e p, add_assoc 16 p 1, lanes_number_high a b e n (p + 1))
 
 -- ---- a load, whose second half stops at the greatest place
 pub loaded_join : (s : List ℕ) (p q : ℕ) → length s < 2 ^ 64 → q ≡ min (p + 16) (2 ^ 64 - 1) → loaded 16 s p ++ loaded 16 s q ≡ loaded 32 s p
@@ -126,9 +127,12 @@ splatted_join b = row_join _ _ _ (λ i h. refl) (λ i h. refl)
 
 -- ---- the 64-bit lanes
 pub lane64_low : (a b : List ℕ) → length a ≡ 16 → (k : ℕ) → k < 2 → lane64 (a ++ b) k ≡ lane64 a k
-lane64_low a b e k h = number_low a b 8 (8 * k) (omega arith)
+lane64_low a b e k h = lanes_number_low a b 8 (8 * k) (omega arith)
 
 pub lane64_high : (a b : List ℕ) → length a ≡ 16 → (k : ℕ) → 2 ≤ k → lane64 (a ++ b) k ≡ lane64 b (k - 2)
 lane64_high a b e k h =
     let m : 8 * k ≡ 16 + 8 * (k - 2) = omega arith in
-    rw m (number_high a b e 8 (8 * (k - 2)))
+    rw m (lanes_number_high a b e 8 (8 * (k - 2)))
+
+-- what the proofs of the doubled vector use
+pub ruleset joins = (anded_join, ored_join, compared_join, shifted_right_4_join, shifted_in_join, shuffled_join, splatted_join, loaded_join, lane64_low, lane64_high, zero-append)

@@ -1,9 +1,6 @@
-pub mod Loops
-pub mod WordLanes
-pub mod Simd
-pub mod PackedWords
+pub mod Rows
 pub mod Numbers
 pub mod Words
-pub mod Rows
+pub mod Simd
+pub mod WordLanes
 pub mod Halves
-pub mod Doubled

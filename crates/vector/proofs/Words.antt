@@ -1,7 +1,11 @@
 -- The bytes of a number.
+-- byte_at w j   the j-th byte of the number w, the lowest first
 use Rattle.std.proofs.Common.{◌≡◌, ℕ, zero, suc, ◌+◌, ◌*◌, ◌/◌, ◌%◌, ◌^◌, ◌<◌, List, sym, ap, ◌∙◌, pow-suc, arith}
 use Rattle.std.proofs.lemmas.Nat.{shr-shr}
-use Rattle.vector.specs.Lanes.{lane, number, byte_at}
+use Rattle.vector.specs.Lanes.{lane, lanes_number}
+
+abbrev pub byte_at : ℕ → ℕ → ℕ
+byte_at w j = w / 2 ^ (8 * j) % 256
 
 -- what holds at each of eight places holds below eight
 pub by_eight : (P : ℕ → Type 0) → P 0 → P 1 → P 2 → P 3 → P 4 → P 5 → P 6 → P 7 → (j : ℕ) → j < 8 → P j
@@ -21,8 +25,8 @@ byte_next w j =
     rw e (ap (λ x. x % 256) (sym (shr-shr w 8 (8 * j))))
 
 -- a word is the number that its bytes make
-pub number_of_bytes : (n w : ℕ) (xs : List ℕ) (p : ℕ) → w < 256 ^ n → ((j : ℕ) → j < n → lane xs (p + j) ≡ byte_at w j) → number n xs p ≡ w
-unfolding number
+pub number_of_bytes : (n w : ℕ) (xs : List ℕ) (p : ℕ) → w < 256 ^ n → ((j : ℕ) → j < n → lane xs (p + j) ≡ byte_at w j) → lanes_number n xs p ≡ w
+unfolding lanes_number
 number_of_bytes zero w xs p lt h = omega arith
 number_of_bytes (suc n) w xs p lt h =
     let start : p + 0 ≡ p = omega arith in
@@ -33,8 +37,8 @@ number_of_bytes (suc n) w xs p lt h =
     omega (arith, first, rest)
 
 -- the bytes of the number that some lanes make are these lanes
-pub byte_of_number : (n : ℕ) (xs : List ℕ) (p : ℕ) → ((i : ℕ) → lane xs i < 256) → (j : ℕ) → j < n → byte_at (number n xs p) j ≡ lane xs (p + j)
-unfolding number
+pub byte_of_number : (n : ℕ) (xs : List ℕ) (p : ℕ) → ((i : ℕ) → lane xs i < 256) → (j : ℕ) → j < n → byte_at (lanes_number n xs p) j ≡ lane xs (p + j)
+unfolding lanes_number
 byte_of_number zero xs p b j lt = absurd (omega arith)
 byte_of_number (suc n) xs p b zero lt =
     let e : p + 0 ≡ p = omega arith in
@@ -42,6 +46,6 @@ byte_of_number (suc n) xs p b zero lt =
 byte_of_number (suc n) xs p b (suc j) lt =
     let one : suc j ≡ j + 1 = omega arith in
     let e : p + 1 + j ≡ p + suc j = omega arith in
-    let m = number n xs (p + 1) in
+    let m = lanes_number n xs (p + 1) in
     let shifted : (lane xs p + 256 * m) / 256 ≡ m = omega (arith, b p) in
     ap (byte_at (lane xs p + 256 * m)) one ∙ byte_next (lane xs p + 256 * m) j ∙ ap (λ x. byte_at x j) shifted ∙ byte_of_number n xs (p + 1) b j (omega arith) ∙ ap (lane xs) e

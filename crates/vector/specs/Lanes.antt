@@ -10,10 +10,9 @@
 -- shifted_right_4 n xs  each lane divided by 16
 -- shifted_in k n xs ys  the last k lanes of ys, then the first of xs
 -- shuffled n xs js      for each lane of js the lane of xs that it names among its own sixteen
--- number n xs p         the n lanes from p on as one number, low byte first
+-- lanes_number n xs p   the n lanes from p on as one number, low byte first
 -- lane64 xs k           the k-th eight lanes as one number
--- byte_at w j           the j-th byte of the number w, the lowest first
-use Rattle.std.specs.Prelude.{ℕ, zero, suc, ◌+◌, ◌-◌, ◌*◌, ◌/◌, ◌%◌, ◌^◌, Bool, true, cond, ◌&&◌, List, [], ◌∷◌, map, ◌==◌, bit_and, bit_or, nat_lt, slice_index}
+use Rattle.std.specs.Prelude.{ℕ, zero, suc, ◌+◌, ◌-◌, ◌*◌, ◌/◌, Bool, true, ◌&&◌, List, [], ◌∷◌, map, ◌==◌, bit_and, bit_or, nat_lt, if◌then◌else◌, slice_index}
 use Rattle.std.specs.List.{range_with_len}
 
 abbrev pub lane : List ℕ → ℕ → ℕ
@@ -39,25 +38,22 @@ abbrev pub ored : ℕ → List ℕ → List ℕ → List ℕ
 ored n xs ys = row n (λ i. bit_or (lane xs i) (lane ys i))
 
 abbrev pub compared : ℕ → List ℕ → List ℕ → List ℕ
-compared n xs ys = row n (λ i. cond (lane xs i == lane ys i) 255 0)
+compared n xs ys = row n (λ i. if lane xs i == lane ys i then 255 else 0)
 
 abbrev pub shifted_right_4 : ℕ → List ℕ → List ℕ
 shifted_right_4 n xs = row n (λ i. lane xs i / 16)
 
 -- where k passes n, ys whole
 abbrev pub shifted_in : ℕ → ℕ → List ℕ → List ℕ → List ℕ
-shifted_in k n xs ys = row n (λ i. cond (nat_lt i k) (lane ys (n - k + i)) (lane xs (i - k)))
+shifted_in k n xs ys = row n (λ i. if nat_lt i k then lane ys (n - k + i) else lane xs (i - k))
 
 -- an index above 15 gives 0
 abbrev pub shuffled : ℕ → List ℕ → List ℕ → List ℕ
-shuffled n xs js = row n (λ i. cond (nat_lt (lane js i) 16) (lane xs (i / 16 * 16 + lane js i)) 0)
+shuffled n xs js = row n (λ i. if nat_lt (lane js i) 16 then lane xs (i / 16 * 16 + lane js i) else 0)
 
-unfoldable pub number : ℕ → List ℕ → ℕ → ℕ
-number zero xs p = 0
-number (suc n) xs p = lane xs p + 256 * number n xs (p + 1)
+unfoldable pub lanes_number : ℕ → List ℕ → ℕ → ℕ
+lanes_number zero xs p = 0
+lanes_number (suc n) xs p = lane xs p + 256 * lanes_number n xs (p + 1)
 
 abbrev pub lane64 : List ℕ → ℕ → ℕ
-lane64 xs k = number 8 xs (8 * k)
-
-abbrev pub byte_at : ℕ → ℕ → ℕ
-byte_at w j = w / 2 ^ (8 * j) % 256
+lane64 xs k = lanes_number 8 xs (8 * k)

@@ -1,6 +1,6 @@
 //! A half as sixteen bytes.
-ghost use Rattle.std.specs.Prelude.{◌≡◌, ℕ, ◌<◌, [], ◌∷◌, length};
-ghost use Rattle.vector.specs.Lanes.{lane, loaded, compared, shifted_right_4, shifted_in, shuffled, lane64};
+ghost use Rattle.std.specs.Prelude.{◌≡◌, ℕ, ◌<◌, length};
+ghost use Rattle.vector.specs.Lanes.{lane, loaded, shifted_in};
 ghost use Rattle.std.proofs.Common.{rules};
 
 use crate::half::Half;
@@ -8,15 +8,13 @@ use std::array::from_fn;
 use std::simd::prelude::*;
 
 /// Sixteen bytes by value, lane i being the byte at i.
-#[derive(Clone, Copy)]
+#[derive(Clone, Copy, Debug, PartialEq, Eq)]
 pub struct ArrayHalf {
     bytes: [u8; 16],
-    // The laws of `Half` speak of every value, and of an array's type they know neither the length nor the bounds.
+    // Kept with each value: the laws of `Half` speak of every value, and the type of an array says neither.
     ghost long: { length bytes ≡ 16 },
     ghost fit: { (i : ℕ) → lane bytes i < 256 },
 }
-
-// What is proved by hand stands in functions beside the methods: an edit of a method is to be refused at its own line.
 
 // The first sixteen bytes of `s`; a lane past the end is 0.
 fn front(s: &[u8]) -> [u8; 16]
@@ -28,20 +26,7 @@ fn front(s: &[u8]) -> [u8; 16]
     }
 }
 
-fn equal(a: u8x16, b: u8x16) -> u8x16
-    requires { (length a ≡ 16) × (length b ≡ 16) }
-    ensures { result ≡ compared 16 a b }
-{
-    a.simd_eq(b).select(u8x16::splat(0xff), u8x16::splat(0))
-}
-
-fn high_nybbles(a: u8x16) -> u8x16
-    requires { length a ≡ 16 }
-    ensures { result ≡ shifted_right_4 16 a }
-{
-    a >> u8x16::splat(4)
-}
-
+// The last `count` bytes of `b`, then the first of `a`.
 fn shifted(a: [u8; 16], b: [u8; 16], count: usize) -> [u8; 16]
     ensures { result ≡ shifted_in count 16 a b }
 {
@@ -49,24 +34,9 @@ fn shifted(a: [u8; 16], b: [u8; 16], count: usize) -> [u8; 16]
     from_fn(|i| if i < count { b[kept + i] } else { a[i - count] })
 }
 
-// An index above 15 becomes 128, at which `swizzle_dyn` gives 0.
-fn picked(a: u8x16, indices: u8x16) -> u8x16
-    requires { length indices ≡ 16 }
-    ensures { result ≡ shuffled 16 a indices }
-{
-    let small = indices.simd_lt(u8x16::splat(16));
-    a.swizzle_dyn(small.select(indices, u8x16::splat(128)))
-}
-
-fn words(bytes: [u8; 16]) -> [u64; 2]
-    ensures { result ≡ lane64 bytes 0 ∷ lane64 bytes 1 ∷ [] }
-{
-    u64x2::from_le_bytes(u8x16::from_array(bytes)).to_array()
-}
-
 impl ArrayHalf {
     /// The half whose lanes are `bytes`.
-    pub fn new(bytes: [u8; 16]) -> ArrayHalf
+    pub(crate) fn new(bytes: [u8; 16]) -> ArrayHalf
         ensures { result.bytes ≡ bytes }
     {
         ArrayHalf { bytes }
@@ -107,7 +77,8 @@ impl Half for ArrayHalf {
     }
 
     fn cmpeq(self, other: ArrayHalf) -> ArrayHalf {
-        ArrayHalf::from_simd(equal(self.to_simd(), other.to_simd()))
+        let equal = self.to_simd().simd_eq(other.to_simd());
+        ArrayHalf::from_simd(equal.select(u8x16::splat(0xff), u8x16::splat(0)))
     }
 
     fn and(self, other: ArrayHalf) -> ArrayHalf {
@@ -119,18 +90,25 @@ impl Half for ArrayHalf {
     }
 
     fn shift_right_four(self) -> ArrayHalf {
-        ArrayHalf::from_simd(high_nybbles(self.to_simd()))
+        ArrayHalf::from_simd(self.to_simd() >> u8x16::splat(4))
     }
 
     fn shift_in(self, other: ArrayHalf, count: usize) -> ArrayHalf {
         ArrayHalf::new(shifted(self.bytes, other.bytes, count))
     }
 
+    // An index above 15 becomes 128, at which `swizzle_dyn` gives 0.
     fn shuffle_bytes(self, indices: ArrayHalf) -> ArrayHalf {
-        ArrayHalf::from_simd(picked(self.to_simd(), indices.to_simd()))
+        let indices = indices.to_simd();
+        let small = indices.simd_lt(u8x16::splat(16));
+        ArrayHalf::from_simd(
+            self.to_simd()
+                .swizzle_dyn(small.select(indices, u8x16::splat(128))),
+        )
     }
 
     fn lane_64(self, k: usize) -> u64 {
-        words(self.bytes).get(k).copied().unwrap_or(0)
+        let lanes = u64x2::from_le_bytes(self.to_simd()).to_array();
+        lanes.get(k).copied().unwrap_or(0)
     }
 }

@@ -3,19 +3,19 @@ ghost use Rattle.std.specs.Prelude.{◌≡◌, ◌≤◌, ◌++◌};
 ghost use Rattle.std.proofs.Common.{◌∙◌, arith, rules};
 ghost use Rattle.vector.specs.Lanes.{shifted_in};
 ghost use Rattle.std.proofs.lemmas.List.{length-append};
-ghost use Rattle.vector.specs.Bounds.{bytes_join};
+ghost use Rattle.vector.specs.Laws.{bytes_join};
 
 use crate::half::Half;
 use crate::vector::Vector;
 
 /// A vector of two halves of one kind: 32 lanes, the lanes 0 to 15 in `low`.
-#[derive(Clone, Copy)]
+#[derive(Clone, Copy, Debug, PartialEq, Eq)]
 pub struct Double<H> {
     low: H,
     high: H,
 }
 
-#[tactic(auto, using(crate::proofs::Doubled::joins))]
+#[tactic(auto, using(crate::proofs::Halves::joins))]
 impl<H: Half> Double<H> {
     // The low half takes lanes in from the other vector, the high half from the low one.
     fn shift_in(self, other: Double<H>, count: usize) -> Double<H>
@@ -29,7 +29,7 @@ impl<H: Half> Double<H> {
     }
 }
 
-#[tactic(auto, using(crate::proofs::Doubled::joins))]
+#[tactic(auto, using(crate::proofs::Halves::joins))]
 impl<H: Half> Vector for Double<H> {
     ghost count = { 32 };
 
@@ -44,7 +44,7 @@ impl<H: Half> Vector for Double<H> {
 
     ghost bytes = { λ v i.
         let met = H.Half in
-        bytes_join _ _ (met.sixteen v.low) (met.bytes v.low) (met.bytes v.high) i };
+        bytes_join _ _ (met.bytes v.low) (met.bytes v.high) i };
 
     fn lane_count() -> usize {
         32

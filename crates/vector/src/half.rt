@@ -4,13 +4,14 @@ ghost use Rattle.vector.specs.Lanes.{lane, splatted, loaded, all_zero, anded, or
 
 /// Half of a doubled vector, or a single vector whole. Its meaning is the list of its lanes, lane 0 first.
 pub trait Half: Copy {
+    // The lanes, as the words of specs/Lanes.antt see them.
     ghost lanes: { Self → List ℕ };
 
     /// `byte` in every lane.
     fn splat(byte: u8) -> Self
         ensures { lanes result ≡ splatted 16 byte };
 
-    /// The bytes of `s` from the place `at` on (the Rust has a pointer for both); a lane past the end is 0.
+    /// The bytes of `s` from the place `at` on; a lane past the end is 0.
     fn load(s: &[u8], at: usize) -> Self
         ensures { lanes result ≡ loaded 16 s.now at };
 
@@ -46,6 +47,7 @@ pub trait Half: Copy {
     fn lane_64(self, k: usize) -> u64
         ensures { result ≡ lane64 (lanes self) k };
 
+    // What a vector of any kind of half may use of it.
     ghost sixteen: { (h : Self) → length (lanes h) ≡ 16 };
 
     ghost bytes: { (h : Self) (i : ℕ) → lane (lanes h) i < 256 };

@@ -5,7 +5,7 @@ use crate::half::Half;
 use crate::vector::Vector;
 
 /// A vector of one half: 16 lanes.
-#[derive(Clone, Copy)]
+#[derive(Clone, Copy, Debug, PartialEq, Eq)]
 pub struct Single<H>(H);
 
 impl<H: Half> Vector for Single<H> {

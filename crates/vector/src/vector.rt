@@ -2,12 +2,13 @@
 ghost use Rattle.std.specs.Prelude.{◌≡◌, ℕ, ◌<◌, ◌⊎◌, List, length};
 ghost use Rattle.vector.specs.Lanes.{lane, splatted, loaded, all_zero, anded, ored, compared, shifted_right_4, shifted_in, shuffled, lane64};
 
-// Half and vector as two traits: a rule of the project. A trait above both would take one more impl for each kind.
+// Half and vector are two traits, so that one more kind of half serves single and doubled vectors alike.
 /// Lanes of a byte each, on which an operation works at once. Its meaning is the list of its lanes, lane 0 first.
 pub trait Vector: Copy {
-    // how many lanes there are
+    // How many lanes there are.
     ghost count: { ℕ };
 
+    // The lanes, as the words of specs/Lanes.antt see them.
     ghost lanes: { Self → List ℕ };
 
     /// The number of lanes, 16 or 32.
@@ -18,7 +19,7 @@ pub trait Vector: Copy {
     fn splat(byte: u8) -> Self
         ensures { lanes result ≡ splatted count byte };
 
-    /// The bytes of `s` from the place `at` on (the Rust has a pointer for both); a lane past the end is 0.
+    /// The bytes of `s` from the place `at` on; a lane past the end is 0.
     fn load(s: &[u8], at: usize) -> Self
         ensures { lanes result ≡ loaded count s.now at };
 
@@ -42,8 +43,7 @@ pub trait Vector: Copy {
     fn shift_right_four(self) -> Self
         ensures { lanes result ≡ shifted_right_4 count (lanes self) };
 
-    // Three methods, as in the Rust: with a count, as in `Half`, the doubled vector would demand at most 16, and a trait's
-    // method that has a const parameter is not proved.
+    // Three methods, as in aho-corasick: with a count, as in `Half`, the doubled vector would demand at most 16 of it.
     /// The last lane of `other`, then all lanes of `self` but its last.
     fn shift_in_one_byte(self, other: Self) -> Self
         ensures { lanes result ≡ shifted_in 1 count (lanes self) (lanes other) };
@@ -64,6 +64,7 @@ pub trait Vector: Copy {
     fn lane_64(self, k: usize) -> u64
         ensures { result ≡ lane64 (lanes self) k };
 
+    // What any code that is written for every kind may use of it.
     ghost wide: { (count ≡ 16) ⊎ (count ≡ 32) };
 
     ghost many: { (v : Self) → length (lanes v) ≡ count };

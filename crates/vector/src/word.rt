@@ -1,20 +1,20 @@
 //! A half as two words of 64 bits.
 ghost use Rattle.std.specs.Prelude.{◌≡◌};
 ghost use Rattle.vector.specs.Words.{held};
-ghost use Rattle.vector.specs.WordBounds.{words_long, words_bytes};
+ghost use Rattle.vector.specs.Laws.{words_long, words_bytes};
 
 use crate::array::ArrayHalf;
 use crate::half::Half;
 use std::simd::prelude::*;
 
 /// Two words, the lanes 0 to 7 in `low`, each the lowest byte first.
-#[derive(Clone, Copy)]
+#[derive(Clone, Copy, Debug, PartialEq, Eq)]
 pub struct WordHalf {
     low: u64,
     high: u64,
 }
 
-#[tactic(auto, using(crate::proofs::PackedWords::words))]
+#[tactic(auto, using(crate::proofs::WordLanes::words))]
 impl WordHalf {
     // `pack` and `unpack` are private, which a `From` would not be.
     fn pack(lanes: ArrayHalf) -> WordHalf
@@ -37,7 +37,7 @@ impl WordHalf {
     }
 }
 
-#[tactic(auto, using(crate::proofs::PackedWords::words))]
+#[tactic(auto, using(crate::proofs::WordLanes::words))]
 impl Half for WordHalf {
     ghost lanes = { held };
 
@@ -46,7 +46,7 @@ impl Half for WordHalf {
     ghost bytes = { λ h i. words_bytes _ _ i };
 
     fn splat(byte: u8) -> WordHalf {
-        // A product, since of `from_le_bytes` over equal bytes the check finds no proof.
+        // The product puts `byte` into each byte of the word.
         let word = u64::from(byte) * 0x0101_0101_0101_0101;
         WordHalf {
             low: word,
