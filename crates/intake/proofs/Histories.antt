@@ -1,17 +1,22 @@
 -- One event more of an intake.
-use Rattle.std.proofs.Common.{◌≡◌, ℕ, cond, List, [], ◌∷◌, ◌++◌, length, is_ok, Ok, Err, Result, sym, refl, ap, ◌∙◌, subst, MatchResult, arith}
+use Rattle.std.specs.Prelude.{slice_index}
+use Rattle.std.proofs.Common.{◌≡◌, ℕ, ◌+◌, ◌<◌, ◌≤◌, take, drop, replicate, cond, List, [], ◌∷◌, ◌++◌, length, is_ok, Ok, Err, Result, sym, refl, ap, ◌∙◌, subst, MatchResult, arith}
 use Rattle.std.proofs.lemmas.Bool.Decides.{nat_tests}
 use Rattle.rules.specs.declared.primitives.Match.{Match}
 use Rattle.rules.specs.declared.fault.Fault.{Fault}
 use Rattle.rules.specs.declared.fault.Refusal.{Refusal}
+use Rattle.rules.specs.declared.fault.Refusal.TheVariants.{TextTooLong, TooManyTexts, HitsTooShort, UnknownPattern}
+use Rattle.rules.specs.Limits.{max_patterns, max_text, max_texts}
+use Rattle.rules.specs.Refusals.{number}
 use Rattle.rules.specs.Book.{Book, Within, count_of}
-use Rattle.rules.specs.Listing.{Covers}
+use Rattle.rules.specs.Listing.{listing, Covers}
 use Rattle.rules.specs.Faults.{placed, numbered, told}
-use Rattle.rules.specs.Ledger.{State, starts, used, accepts, scan_answer, scan_of, hits_after, tally_answer, Asked, ask_scan, ask_tally, Told, told_scan, told_tally, tells, adds}
-use Rattle.rules.specs.History.{Event, after, Past, made_over, then, state, Covered, ToldSo, Model, used_by, tally_in, Counted, Keeps, Served}
+use Rattle.rules.specs.Ledger.{State, starts, hits_with, used, accepts, scan_answer, scan_of, hits_after, tally_answer, Asked, ask_scan, ask_tally, Told, told_scan, told_tally, tells, adds}
+use Rattle.rules.specs.History.{Event, after, Past, made_over, then, state, Covered, ToldSo, Holding, used_by, tally_in, Counted, Keeps, Served}
 use Rattle.rules.proofs.Listings.{listing_covers}
 use Rattle.rules.proofs.Enters.{entered}
-use Rattle.intake.proofs.Scans.{accepted, hits_front, told_placed, hits_placed, keeps_more}
+use Rattle.intake.specs.Intakes.{ServesCall}
+use Rattle.intake.proofs.Scans.{accepted, hits_front, told_placed, hits_placed, keeps_none, keeps_more}
 
 after_push : (s : State) (es : List Event) (e : Event) → after s (es ++ e ∷ []) ≡ adds (after s es) e.asked
 after_push s [] e = refl
@@ -21,11 +26,11 @@ told_push : (s : State) (es : List Event) (e : Event) → ToldSo s es → e.told
 told_push s [] e h k c = (k, c, tt)
 told_push s (x ∷ es) e h k c = (h.0, h.1, told_push (adds s x.asked) es e h.2 k c)
 
-pub served_none : (b : Book) (m : Model) → m.book ≡ b → Keeps (starts b) m → Served (made_over b) m
-served_none b m e k = record { told = tt; keeps = k; enters = entered m.book }
+pub serves_none : (b : Book) (m : Holding) → m.book ≡ b → m.accepted ≡ 0 → m.tallies ≡ replicate max_patterns 0 → Served (made_over b) m
+serves_none b m same none zeros = record { told = tt; keeps = keeps_none b m same none zeros; enters = entered m.book }
 
 -- what was told, what it covers and what is kept are all that is to show
-served-push : (p : Past) (a : Asked) (t : Told) (m m' : Model) → Served p m → t ≡ tells (state p) a → Covered (state p).book a t → Keeps (adds (state p) a) m' → Served (then p a t) m'
+served-push : (p : Past) (a : Asked) (t : Told) (m m' : Holding) → Served p m → t ≡ tells (state p) a → Covered (state p).book a t → Keeps (adds (state p) a) m' → Served (then p a t) m'
 served-push p a t m m' s is cover k =
     let e : Event = record { asked = a; told = t } in
     record {
@@ -42,7 +47,7 @@ covered_scan s w t hs = go (scan_of s t hs) refl
     go (Err k) e = tt
     go (Ok n) e = subst (Covers s.book t) (sym (hits_front s.book t hs _ n (accepted s.book (used s) t (length hs) n e).hits refl)) (listing_covers s.book w t)
 
-pub served_scan : (p : Past) (at : ℕ) (t : List ℕ) (hs hs' : List Match) (r : Result ℕ Fault) (m m' : Model) → Within m.book → r ≡ placed at (scan_answer m.book (used_by m) t (length hs)) → hs' ≡ hits_after m.book t hs r → MatchResult r (λ _. Counted m t m') (λ _. m' ≡ m) → Served p m → Served (then p (ask_scan t hs) (told_scan (told r) hs')) m'
+pub served_scan : (p : Past) (at : ℕ) (t : List ℕ) (hs hs' : List Match) (r : Result ℕ Fault) (m m' : Holding) → Within m.book → r ≡ placed at (scan_answer m.book (used_by m) t (length hs)) → hs' ≡ hits_after m.book t hs r → MatchResult r (λ _. Counted m t m') (λ _. m' ≡ m) → Served p m → Served (then p (ask_scan t hs) (told_scan (told r) hs')) m'
 served_scan p at t hs hs' r m m' w answer hits done s =
     served-push p (ask_scan t hs) (told_scan (told r) hs') m m' s tells_so (subst (Covered (state p).book (ask_scan t hs)) (sym tells_so) (covered_scan (state p) (subst Within s.keeps.book w) t hs)) (kept (scan_of (state p) t hs) is)
   where
@@ -57,9 +62,42 @@ served_scan p at t hs hs' r m m' w answer hits done s =
     kept (Err k) e = subst (Keeps (state p)) (sym (subst (λ y. MatchResult y (λ _. Counted m t m') (λ _. m' ≡ m)) e done)) s.keeps
 
 -- what an intake answers for a tally is the ledger's
-tally_is : (s : State) (m : Model) (i : ℕ) → Keeps s m → tally_in m i ≡ tally_answer s i
+tally_is : (s : State) (m : Holding) (i : ℕ) → Keeps s m → tally_in m i ≡ tally_answer s i
 tally_is s m i k = let h = k.tallies i in let same = ap count_of k.book in grind (arith, nat_tests)
 
-pub served_tally : (p : Past) (at i : ℕ) (r : Result ℕ Fault) (m : Model) → r ≡ placed at (tally_in m i) → Served p m → Served (then p (ask_tally i) (told_tally (told r))) m
+pub served_tally : (p : Past) (at i : ℕ) (r : Result ℕ Fault) (m : Holding) → r ≡ placed at (tally_in m i) → Served p m → Served (then p (ask_tally i) (told_tally (told r))) m
 served_tally p at i r m answer s =
     served-push p (ask_tally i) (told_tally (told r)) m m s (ap told_tally (ap told answer ∙ told_placed at _ ∙ ap numbered (tally_is (state p) m i s.keeps))) tt s.keeps
+
+-- a call for a tally, by its answer
+pub serves_tally : (m : Holding) (i n : ℕ) → i < count_of m.book → n ≡ slice_index m.tallies i → ServesCall m (ask_tally i) (told_tally (Ok n)) m
+unfolding ServesCall
+serves_tally m i n known is = λ p s. served_tally p 0 i (Ok n) m (grind (arith, nat_tests)) s
+
+pub refuses_tally : (m : Holding) (i n : ℕ) → Err n ≡ numbered (tally_in m i) → ServesCall m (ask_tally i) (told_tally (Err n)) m
+unfolding ServesCall
+refuses_tally m i n is = λ p s. served-push p (ask_tally i) (told_tally (Err n)) m m s (ap told_tally (is ∙ ap numbered (tally_is (state p) m i s.keeps))) tt s.keeps
+
+-- a scan, by its answer
+pub refuses_scan : (m : Holding) (t : List ℕ) (hs : List Match) (n : ℕ) → Err n ≡ numbered (scan_answer m.book m.accepted t (length hs)) → ServesCall m (ask_scan t hs) (told_scan (Err n) hs) m
+unfolding ServesCall
+refuses_scan m t hs n is = λ p s. go p s (scan_of (state p) t hs) refl (is ∙ ap numbered (same p s))
+  where
+    same : (p : Past) → Served p m → scan_answer m.book m.accepted t (length hs) ≡ scan_of (state p) t hs
+    same p s = λ i. scan_answer (s.keeps.book i) (s.keeps.count i) t (length hs)
+
+    go : (p : Past) → Served p m → (r : Result ℕ Refusal) → r ≡ scan_of (state p) t hs → Err n ≡ numbered r → Served (then p (ask_scan t hs) (told_scan (Err n) hs)) m
+    go p s (Ok k) e f = cc
+    go p s (Err k) e f =
+        served-push p (ask_scan t hs) (told_scan (Err n) hs) m m s
+        (λ i. told_scan ((f ∙ ap numbered e) i) (hits_after (state p).book t hs (e i)))
+        tt
+        (subst (λ r. Keeps (cond (is_ok r) (accepts (state p) t) (state p)) m) e s.keeps)
+
+pub serves_scan : (m m' : Holding) (t : List ℕ) (hs hs' : List Match) (n : ℕ) → Within m.book → length t ≤ max_text → m.accepted < max_texts → n ≤ length hs → n ≡ length (listing m.book t) → hs' ≡ listing m.book t ++ drop n hs → m'.book ≡ m.book → m'.accepted ≡ m.accepted + 1 → ((k : ℕ) → slice_index m'.tallies k ≡ slice_index m.tallies k + hits_with k (take n hs')) → ServesCall m (ask_scan t hs) (told_scan (Ok n) hs') m'
+unfolding ServesCall
+serves_scan m m' t hs hs' n w short few room long written same one raised =
+    let front = hits_front m.book t hs hs' n long (written ∙ (λ i. listing m.book t ++ drop (long i) hs)) in
+    λ p s. served_scan p 0 t hs hs' (Ok n) m m' w (grind (arith, nat_tests)) (written ∙ (λ i. listing m.book t ++ drop (long i) hs))
+    (record { book = same; count = one; tallies = λ i l. raised i ∙ (λ j. slice_index m.tallies i + hits_with i (front j)) })
+    s

@@ -6,10 +6,8 @@ use Rattle.rules.specs.declared.fault.Refusal.{Refusal}
 use Rattle.rules.specs.Book.{Book, Within}
 use Rattle.rules.specs.Faults.{placed, told}
 use Rattle.rules.specs.Ledger.{starts, hits_of, scan_answer, hits_after, ask_scan, told_scan}
-use Rattle.rules.specs.History.{Past, then, used_by, Counted}
-use Rattle.finder.specs.declared.finder.Finder.{Ghosts}
-use Rattle.intake.specs.declared.intake.Intake.{Intake}
-use Rattle.intake.specs.Intakes.{model, Serves, Scans}
+use Rattle.rules.specs.History.{Past, then, Holding, used_by, Counted, Served}
+use Rattle.intake.specs.Intakes.{Scans}
 use Rattle.intake.proofs.Histories.{served_scan}
 
 -- no text, no hits
@@ -29,18 +27,14 @@ placed_at at x r e = subst (λ y. IfErr y (λ f. f.place ≡ at)) (sym e) (here 
     here (Err k) = refl
 
 -- an intake that scans has served the scan
-pub serves_scan : {F : Type 0} {g : Ghosts F} (book : F → Book) (p : Past) (x : Intake F g) (at : ℕ) (t : List ℕ) (hs : List Match) (r : Result ℕ Fault) (hs' : List Match) (x' : Intake F g) → Within (book x.finder) → Scans book x at t hs r hs' x' → Serves book p x → Serves book (then p (ask_scan t hs) (told_scan (told r) hs')) x'
-serves_scan book p x at t hs r hs' x' w d s = served_scan p at t hs hs' r (model book x) (model book x') w d.answer d.hits (done r d.after) s
-  where
-    done : (r : Result ℕ Fault) → MatchResult r (λ _. Counted (model book x) t (model book x')) (λ _. x' ≡ x) → MatchResult r (λ _. Counted (model book x) t (model book x')) (λ _. model book x' ≡ model book x)
-    done (Ok n) c = c
-    done (Err f) e = ap (model book) e
+pub serves_scan : (p : Past) (m : Holding) (at : ℕ) (t : List ℕ) (hs : List Match) (r : Result ℕ Fault) (hs' : List Match) (m' : Holding) → Within m.book → Scans m at t hs r hs' m' → Served p m → Served (then p (ask_scan t hs) (told_scan (told r) hs')) m'
+serves_scan p m at t hs r hs' m' w d s = served_scan p at t hs hs' r m m' w d.answer d.hits d.after s
 
 -- a refusal alters nothing
-pub scan_refused : {F : Type 0} {g : Ghosts F} (book : F → Book) (x : Intake F g) (at : ℕ) (t : List ℕ) (hs : List Match) (r : Result ℕ Fault) (f : Fault) → r ≡ Err f → r ≡ placed at (scan_answer (book x.finder) (used_by (model book x)) t (length hs)) → Scans book x at t hs r hs x
-scan_refused book x at t hs r f e answer = record {
-  finder = refl;
+pub scan_refused : (m : Holding) (at : ℕ) (t : List ℕ) (hs : List Match) (r : Result ℕ Fault) (f : Fault) → r ≡ Err f → r ≡ placed at (scan_answer m.book (used_by m) t (length hs)) → Scans m at t hs r hs m
+scan_refused m at t hs r f e answer = record {
+  book = refl;
   answer = answer;
-  hits = sym (ap (hits_after (book x.finder) t hs) e);
-  after = subst (λ y. MatchResult y (λ _. Counted (model book x) t (model book x)) (λ _. x ≡ x)) (sym e) refl;
+  hits = sym (ap (hits_after m.book t hs) e);
+  after = subst (λ y. MatchResult y (λ _. Counted m t m) (λ _. m ≡ m)) (sym e) refl;
 }

@@ -1,7 +1,6 @@
 ghost use Rattle.std.specs.Prelude.{◌≡◌, ◌≤◌, ◌↔◌, [], map, length, vec_len, vec_capacity, All, IsOk, IfOk, MatchResult};
-ghost use Rattle.rules.specs.History.{Past};
+ghost use Rattle.rules.specs.History.{Past, Served};
 ghost use Rattle.intake.specs.Calls.{asks, tell, pairs, following, Outside};
-ghost use Rattle.intake.specs.Intakes.{Serves};
 
 use crate::calls::{Call, Reply, serve};
 use crate::intake::Intake;
@@ -22,11 +21,11 @@ impl<'a> Batch<'a> {
 
     /// A batch of calls, with a new list for their replies. Where there is no memory for that list the calls are given back;
     /// without calls it needs none.
-    pub fn new(heap: Global, calls: Vec<Call<'a>>) -> Result<Batch<'a>, Vec<Call<'a>>>
+    pub fn new(alloc: Global, calls: Vec<Call<'a>>) -> Result<Batch<'a>, Vec<Call<'a>>>
         ensures calls { MatchResult result (λ batch. calls_of batch ≡ calls.entry.items) (λ back. back ≡ calls.entry) }
         ensures no_calls { vec_len calls.entry ≡ 0 → IsOk result }
     {
-        let Ok(replies) = Vec::with_capacity(heap, calls.len()) else {
+        let Ok(replies) = Vec::with_capacity(alloc, calls.len()) else {
             return Err(calls);
         };
         Ok(Batch { calls, replies })
@@ -51,11 +50,11 @@ impl<'a> Batch<'a> {
     /// Makes each call in turn, and answers the reply to each, in the list that the batch has for them, which keeps its room. It
     /// cannot fail: a refusal is a reply as well.
     pub fn serve_all<F: Finder>(self, intake: &mut Intake<F>) -> Vec<Reply>
-        ensures finder { intake.new.finder ≡ intake.old.finder }
+        ensures book { intake.new.book ≡ intake.old.book }
         ensures list { vec_capacity result ≡ room_of self.entry }
         ensures each { vec_len result ≡ length (calls_of self.entry) }
         ensures outside { All Outside result.items }
-        ensures served { (p : Past) → Serves F.book p intake.old → Serves F.book (following p (pairs (map asks (calls_of self.entry)) (map tell result.items))) intake.new }
+        ensures served { (p : Past) → Served p intake.old → Served (following p (pairs (map asks (calls_of self.entry)) (map tell result.items))) intake.new }
     {
         let Batch { calls, mut replies } = self;
         let mut left = calls.into_iter();

@@ -1,8 +1,8 @@
 ghost use Rattle.std.specs.Prelude.{◌≡◌, map, length, vec_len, vec_capacity, All};
-ghost use Rattle.rules.specs.History.{made_over};
+ghost use Rattle.rules.specs.History.{made_over, Served};
 ghost use Rattle.intake.specs.Batches.{calls_of, room_of};
 ghost use Rattle.intake.specs.Calls.{asks, tell, pairs, following, Outside};
-ghost use Rattle.intake.specs.Intakes.{Serves, ServesCall};
+ghost use Rattle.intake.specs.Intakes.{ServesCall};
 
 use crate::batch::Batch;
 use crate::intake::Intake;
@@ -29,9 +29,9 @@ pub enum Reply {
 
 /// Makes one call. A refusal is a reply as well, and alters nothing.
 pub fn serve<F: Finder>(intake: &mut Intake<F>, call: Call<'_>) -> Reply
-    ensures finder { intake.new.finder ≡ intake.old.finder }
+    ensures book { intake.new.book ≡ intake.old.book }
     ensures outside { Outside result }
-    ensures served { ServesCall F.book intake.old (asks call.entry) (tell result) intake.new }
+    ensures served { ServesCall intake.old (asks call.entry) (tell result) intake.new }
 {
     match call {
         Call::Scan { text, mut hits } => {
@@ -51,22 +51,11 @@ pub struct Run<F: Finder> {
 
 /// Makes an intake of a searcher, and then each call of a batch in turn. It cannot fail.
 pub fn make_and_serve<F: Finder>(finder: F, batch: Batch<'_>) -> Run<F>
-    ensures finder { result.intake.finder ≡ finder }
+    ensures book { result.intake.book ≡ F.book finder }
     ensures list { vec_capacity result.replies ≡ room_of batch.entry }
     ensures each { vec_len result.replies ≡ length (calls_of batch.entry) }
     ensures outside { All Outside result.replies.items }
-    ensures served { Serves F.book (following (made_over (F.book finder)) (pairs (map asks (calls_of batch.entry)) (map tell result.replies.items))) result.intake }
-{
-    serve_new(finder, batch)
-}
-
-/// A new intake of a searcher, and what a batch of calls leaves of it.
-fn serve_new<F: Finder>(finder: F, batch: Batch<'_>) -> Run<F>
-    ensures finder { result.intake.finder ≡ finder }
-    ensures list { vec_capacity result.replies ≡ room_of batch.entry }
-    ensures each { vec_len result.replies ≡ length (calls_of batch.entry) }
-    ensures outside { All Outside result.replies.items }
-    ensures served { Serves F.book (following (made_over (F.book finder)) (pairs (map asks (calls_of batch.entry)) (map tell result.replies.items))) result.intake }
+    ensures served { Served (following (made_over (F.book finder)) (pairs (map asks (calls_of batch.entry)) (map tell result.replies.items))) result.intake }
 {
     let mut intake = Intake::new(finder);
     let replies = batch.serve_all(&mut intake);

@@ -4,8 +4,9 @@
 
 mod batch;
 mod calls;
+mod hits;
 mod intake;
-mod table;
+mod tally_table;
 
 pub use batch::Batch;
 pub use calls::{Call, Reply, Run, make_and_serve, serve};

@@ -1,8 +1,9 @@
 use Rattle.std.proofs.Common.{◌≡◌, [], ◌∷◌, ◌++◌, All, map, length, vec_items, refl, sym, ap, ◌∙◌, subst, append_assoc, append-nil, arith}
 use Rattle.std.proofs.lemmas.List.{length_push, length-map, map_push}
 use Rattle.std.proofs.lemmas.List.Elements.{All-push}
+use Rattle.rules.specs.History.{Served}
 use Rattle.intake.specs.Calls.{asks, tell, pairs, Outside}
-use Rattle.intake.specs.Intakes.{Serves}
+use Rattle.intake.specs.Intakes.{ServesCall}
 use Rattle.intake.proofs.Runs.{pairs-push, one_more}
 use Rattle.intake.proofs.batch.Batch.serve_all.Goals as goal
 
@@ -15,12 +16,13 @@ loop-call-init g c =
       each = omega (arith, batch.replies.ok.0, ap length batch.blank);
       room = omega (arith, ap length c.into_iter-left.ensures.rest, batch.calls.ok.0, batch.room);
       list = refl;
-      finder = refl;
+      book = refl;
       outside = subst (All Outside) (sym batch.blank) (λ k d h. absurd (omega (arith, h)));
-      served = λ p s. subst (λ es. Serves g.F.Finder.book (record { first = p.first; events = es }) c.args.intake.now) (sym (append-nil p.events)) s;
+      served = λ p s. subst (λ es. Served (record { first = p.first; events = es }) c.args.intake.now) (sym (append-nil p.events)) s;
     }
 
 pub loop-call-preserved : goal.loop-call-preserved
+unfolding ServesCall
 loop-call-preserved g c =
     let i = c.loop-call.invariant in
     let call = c.in-Some.call in
@@ -35,7 +37,7 @@ loop-call-preserved g c =
       each = omega (arith, c.push_reserved.ensures.len, length_push i.done call, i.each);
       room = omega (arith, c.push_reserved.ensures.capacity, i.room);
       list = c.push_reserved.ensures.capacity ∙ i.list;
-      finder = c.serve.ensures.finder ∙ i.finder;
+      book = c.serve.ensures.book ∙ i.book;
       outside = subst (All Outside) (sym c.push_reserved.ensures.items) (All-push Outside old c.serve.result i.outside c.serve.ensures.outside);
-      served = λ p s. one_more (λ q. Serves g.F.Finder.book q c.loop-call.intake) (λ q. Serves g.F.Finder.book q c.serve.new.intake) p _ _ (asks call) (tell c.serve.result) more c.serve.ensures.served (i.served p s);
+      served = λ p s. one_more (λ q. Served q c.loop-call.intake) (λ q. Served q c.serve.new.intake) p _ _ (asks call) (tell c.serve.result) more c.serve.ensures.served (i.served p s);
     }

@@ -1,9 +1,8 @@
 use Rattle.std.proofs.Common.{◌≡◌, ◌≤◌, List, ◌++◌, All, map, length, vec_items, vec_len, vec_capacity}
 use Rattle.std.specs.Vec.Iter.{into_iter_items, into_iter_len}
-use Rattle.rules.specs.History.{Past}
+use Rattle.rules.specs.History.{Past, Served}
 use Rattle.intake.specs.declared.calls.Call.{Call}
 use Rattle.intake.specs.Calls.{asks, tell, pairs, following, Outside}
-use Rattle.intake.specs.Intakes.{Serves}
 use Rattle.intake.proofs.batch.Batch.serve_all.Given as goal
 
 -- `done` are the calls that were made
@@ -15,9 +14,9 @@ invariant-loop-call g l =
       each : vec_len l.replies ≡ length done;
       room : length (into_iter_items l.initial.left) ≤ vec_capacity l.replies;
       list : vec_capacity l.replies ≡ vec_capacity l.initial.replies;
-      finder : l.intake.finder ≡ l.initial.intake.finder;
+      book : l.intake.book ≡ l.initial.intake.book;
       outside : All Outside (vec_items l.replies);
-      served : (p : Past) → Serves g.F.Finder.book p l.initial.intake → Serves g.F.Finder.book (following p (pairs (map asks done) (map tell (vec_items l.replies)))) l.intake;
+      served : (p : Past) → Served p l.initial.intake → Served (following p (pairs (map asks done) (map tell (vec_items l.replies)))) l.intake;
     }
 
 abbrev pub decreases-loop-call : goal.decreases-loop-call

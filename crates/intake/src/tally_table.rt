@@ -1,4 +1,5 @@
 ghost use Rattle.std.specs.Prelude.{◌≡◌, ℕ, ◌+◌, ◌^◌, ◌<◌, length, replicate, All, slice_index, slice_set, sum};
+ghost use Rattle.rules.specs.Limits.{max_patterns};
 ghost use Rattle.rules.specs.Search.{id_of};
 ghost use Rattle.rules.specs.Ledger.{hits_with};
 ghost use Rattle.intake.specs.Tallies.{tallies};
@@ -8,8 +9,8 @@ use rules::{Match, PatternID};
 
 /// How often a pattern was hit.
 #[derive(Clone, Copy)]
-pub struct Tally {
-    pub hits: u32,
+pub(crate) struct Tally {
+    hits: u32,
 }
 
 impl Tally {
@@ -24,15 +25,15 @@ impl Tally {
 
 /// The tally of each pattern, by its id. It has a fixed size, so that making one cannot fail.
 #[derive(Drop)]
-pub struct Table {
-    pub records: [Tally; MAX_PATTERNS],
+pub(crate) struct TallyTable {
+    records: [Tally; MAX_PATTERNS],
 }
 
-impl Table {
-    pub(crate) fn new() -> Table
-        ensures { tallies result ≡ replicate 1024 0 }
+impl TallyTable {
+    pub(crate) fn new() -> TallyTable
+        ensures { tallies result ≡ replicate max_patterns 0 }
     {
-        Table {
+        TallyTable {
             records: [Tally { hits: 0 }; MAX_PATTERNS],
         }
     }
@@ -40,7 +41,7 @@ impl Table {
     // The tally of a pattern.
     #[tactic(auto, using(crate::proofs::Raises::tally_at))]
     pub(crate) fn get(&self, id: PatternID) -> u32
-        requires { id < 1024 }
+        requires { id < max_patterns }
         ensures { result ≡ slice_index (tallies self.now) id }
     {
         self.records[id.as_usize()].hits
@@ -49,9 +50,9 @@ impl Table {
     // Lends the record of a pattern, and raises it. A method that only lends it gets no proof: it is an element of an array.
     #[tactic(auto, using(crate::proofs::Raises::tally_at, crate::proofs::Raises::tallies_set))]
     fn raise(&mut self, id: PatternID)
-        requires known { id < 1024 }
+        requires known { id < max_patterns }
         requires room { slice_index (tallies self.old) id + 1 < 2 ^ 32 }
-        ensures len { length (tallies self.old) ≡ 1024 }
+        ensures len { length (tallies self.old) ≡ max_patterns }
         ensures set { tallies self.new ≡ slice_set (tallies self.old) id (slice_index (tallies self.old) id + 1) }
     {
         let record = &mut self.records[id.as_usize()];
@@ -60,7 +61,7 @@ impl Table {
 
     // Raises the tally of each hit.
     pub(crate) fn raise_all(&mut self, hits: &[Match])
-        requires known { All (λ m. id_of m < 1024) hits.now }
+        requires known { All (λ m. id_of m < max_patterns) hits.now }
         requires room { sum (tallies self.old) + length hits.now < 2 ^ 32 }
         ensures total { sum (tallies self.new) ≡ sum (tallies self.old) + length hits.now }
         ensures raised { (k : ℕ) → slice_index (tallies self.new) k ≡ slice_index (tallies self.old) k + hits_with k hits.now }
