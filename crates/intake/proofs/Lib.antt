@@ -1,3 +1,4 @@
+mod Constants
 pub mod Raises
 pub mod Scans
 pub mod Histories

@@ -12,5 +12,6 @@ pairs-push (a ∷ xs) (b ∷ ys) x y e = ap (λ es. record { asked = a; told = b
 
 -- the events es have followed, and one more call follows
 pub one_more : (P Q : Past → Type 0) (p : Past) (es es' : List Event) (a : Asked) (t : Told) → es' ≡ es ++ record { asked = a; told = t } ∷ [] → ((q : Past) → P q → Q (then q a t)) → P (following p es) → Q (following p es')
+unfolding following
 one_more P Q p es es' a t is step h =
     subst (λ fs. Q (record { first = p.first; events = fs })) (append_assoc p.events es (record { asked = a; told = t } ∷ []) ∙ ap (λ fs. p.events ++ fs) (sym is)) (step (following p es) h)

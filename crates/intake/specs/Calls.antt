@@ -29,5 +29,5 @@ pairs [] ts = []
 pairs (a ∷ cs) [] = []
 pairs (a ∷ cs) (t ∷ ts) = record { asked = a; told = t } ∷ pairs cs ts
 
-abbrev pub following : Past → List Event → Past
+unfoldable pub following : Past → List Event → Past
 following p es = record { first = p.first; events = p.events ++ es }

@@ -2,12 +2,13 @@ use Rattle.std.proofs.Common.{◌≡◌, [], ◌∷◌, ◌++◌, All, map, leng
 use Rattle.std.proofs.lemmas.List.{length_push, length-map, map_push}
 use Rattle.std.proofs.lemmas.List.Elements.{All-push}
 use Rattle.rules.specs.History.{Served}
-use Rattle.intake.specs.Calls.{asks, tell, pairs, Outside}
+use Rattle.intake.specs.Calls.{asks, tell, pairs, following, Outside}
 use Rattle.intake.specs.Intakes.{ServesCall}
 use Rattle.intake.proofs.Runs.{pairs-push, one_more}
 use Rattle.intake.proofs.batch.Batch.serve_all.Goals as goal
 
 pub loop-call-init : goal.loop-call-init
+unfolding following
 loop-call-init g c =
     let batch = c.args.self in
     record {
