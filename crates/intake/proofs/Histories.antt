@@ -5,9 +5,7 @@ use Rattle.std.proofs.lemmas.Bool.Decides.{nat_tests}
 use Rattle.rules.specs.declared.primitives.Match.{Match}
 use Rattle.rules.specs.declared.fault.Fault.{Fault}
 use Rattle.rules.specs.declared.fault.Refusal.{Refusal}
-use Rattle.rules.specs.declared.fault.Refusal.TheVariants.{TextTooLong, TooManyTexts, HitsTooShort, UnknownPattern}
 use Rattle.rules.specs.Limits.{max_patterns, max_text, max_texts}
-use Rattle.rules.specs.Refusals.{number}
 use Rattle.rules.specs.Book.{Book, Within, count_of}
 use Rattle.rules.specs.Listing.{listing, Covers}
 use Rattle.rules.specs.Faults.{placed, numbered, told}
@@ -16,7 +14,7 @@ use Rattle.rules.specs.History.{Event, after, Past, made_over, then, state, Cove
 use Rattle.rules.proofs.Listings.{listing_covers}
 use Rattle.rules.proofs.Enters.{entered}
 use Rattle.intake.specs.Intakes.{ServesCall}
-use Rattle.intake.proofs.Scans.{accepted, hits_front, told_placed, hits_placed, keeps_none, keeps_more}
+use Rattle.intake.proofs.Scans.{accepted, told_placed, hits_placed, keeps_none, keeps_more, listing_ids, listing_short, written_front}
 
 after_push : (s : State) (es : List Event) (e : Event) → after s (es ++ e ∷ []) ≡ adds (after s es) e.asked
 after_push s [] e = refl
@@ -45,7 +43,7 @@ covered_scan s w t hs = go (scan_of s t hs) refl
   where
     go : (r : Result ℕ Refusal) → r ≡ scan_of s t hs → Covered s.book (ask_scan t hs) (told_scan (numbered r) (hits_after s.book t hs r))
     go (Err k) e = tt
-    go (Ok n) e = subst (Covers s.book t) (sym (hits_front s.book t hs _ n (accepted s.book (used s) t (length hs) n e).hits refl)) (listing_covers s.book w t)
+    go (Ok n) e = subst (Covers s.book t) (sym (written_front s.book t _ n (accepted s.book (used s) t (length hs) n e))) (listing_covers s.book w t)
 
 pub served_scan : (p : Past) (at : ℕ) (t : List ℕ) (hs hs' : List Match) (r : Result ℕ Fault) (m m' : Holding) → Within m.book → r ≡ placed at (scan_answer m.book (used_by m) t (length hs)) → hs' ≡ hits_after m.book t hs r → MatchResult r (λ _. Counted m t m') (λ _. m' ≡ m) → Served p m → Served (then p (ask_scan t hs) (told_scan (told r) hs')) m'
 served_scan p at t hs hs' r m m' w answer hits done s =
@@ -65,20 +63,12 @@ served_scan p at t hs hs' r m m' w answer hits done s =
 tally_is : (s : State) (m : Holding) (i : ℕ) → Keeps s m → tally_in m i ≡ tally_answer s i
 tally_is s m i k = let h = k.tallies i in let same = ap count_of k.book in grind (arith, nat_tests)
 
-pub served_tally : (p : Past) (at i : ℕ) (r : Result ℕ Fault) (m : Holding) → r ≡ placed at (tally_in m i) → Served p m → Served (then p (ask_tally i) (told_tally (told r))) m
-served_tally p at i r m answer s =
-    served-push p (ask_tally i) (told_tally (told r)) m m s (ap told_tally (ap told answer ∙ told_placed at _ ∙ ap numbered (tally_is (state p) m i s.keeps))) tt s.keeps
-
--- a call for a tally, by its answer
-pub serves_tally : (m : Holding) (i n : ℕ) → i < count_of m.book → n ≡ slice_index m.tallies i → ServesCall m (ask_tally i) (told_tally (Ok n)) m
+-- a call for a tally, by what it told
+pub answers_tally : (m : Holding) (i : ℕ) (r : Result ℕ ℕ) → r ≡ numbered (tally_in m i) → ServesCall m (ask_tally i) (told_tally r) m
 unfolding ServesCall
-serves_tally m i n known is = λ p s. served_tally p 0 i (Ok n) m (grind (arith, nat_tests)) s
+answers_tally m i r is = λ p s. served-push p (ask_tally i) (told_tally r) m m s (ap told_tally (is ∙ ap numbered (tally_is (state p) m i s.keeps))) tt s.keeps
 
-pub refuses_tally : (m : Holding) (i n : ℕ) → Err n ≡ numbered (tally_in m i) → ServesCall m (ask_tally i) (told_tally (Err n)) m
-unfolding ServesCall
-refuses_tally m i n is = λ p s. served-push p (ask_tally i) (told_tally (Err n)) m m s (ap told_tally (is ∙ ap numbered (tally_is (state p) m i s.keeps))) tt s.keeps
-
--- a scan, by its answer
+-- a scan that is refused
 pub refuses_scan : (m : Holding) (t : List ℕ) (hs : List Match) (n : ℕ) → Err n ≡ numbered (scan_answer m.book m.accepted t (length hs)) → ServesCall m (ask_scan t hs) (told_scan (Err n) hs) m
 unfolding ServesCall
 refuses_scan m t hs n is = λ p s. go p s (scan_of (state p) t hs) refl (is ∙ ap numbered (same p s))
@@ -94,10 +84,14 @@ refuses_scan m t hs n is = λ p s. go p s (scan_of (state p) t hs) refl (is ∙ 
         tt
         (subst (λ r. Keeps (cond (is_ok r) (accepts (state p) t) (state p)) m) e s.keeps)
 
-pub serves_scan : (m m' : Holding) (t : List ℕ) (hs hs' : List Match) (n : ℕ) → Within m.book → length t ≤ max_text → m.accepted < max_texts → n ≤ length hs → n ≡ length (listing m.book t) → hs' ≡ listing m.book t ++ drop n hs → m'.book ≡ m.book → m'.accepted ≡ m.accepted + 1 → ((k : ℕ) → slice_index m'.tallies k ≡ slice_index m.tallies k + hits_with k (take n hs')) → ServesCall m (ask_scan t hs) (told_scan (Ok n) hs') m'
+-- a scan that is accepted
+pub accepts_scan : (m m' : Holding) (t : List ℕ) (hs hs' : List Match) (n : ℕ) → Within m.book → length t ≤ max_text → m.accepted < max_texts → n ≤ length hs → n ≡ length (listing m.book t) → hs' ≡ listing m.book t ++ drop n hs → m'.book ≡ m.book → m'.accepted ≡ m.accepted + 1 → ((k : ℕ) → slice_index m'.tallies k ≡ slice_index m.tallies k + hits_with k (take n hs')) → ServesCall m (ask_scan t hs) (told_scan (Ok n) hs') m'
 unfolding ServesCall
-serves_scan m m' t hs hs' n w short few room long written same one raised =
-    let front = hits_front m.book t hs hs' n long (written ∙ (λ i. listing m.book t ++ drop (long i) hs)) in
+accepts_scan m m' t hs hs' n w short few room long written same one raised =
+    let front = ap (take n) written ∙ written_front m.book t (drop n hs) n long in
     λ p s. served_scan p 0 t hs hs' (Ok n) m m' w (grind (arith, nat_tests)) (written ∙ (λ i. listing m.book t ++ drop (long i) hs))
     (record { book = same; count = one; tallies = λ i l. raised i ∙ (λ j. slice_index m.tallies i + hits_with i (front j)) })
     s
+
+-- what is needed of the text's hits beside these
+pub ruleset scan_steps = (accepts_scan, refuses_scan, written_front, listing_ids, listing_short)

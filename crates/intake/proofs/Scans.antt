@@ -20,10 +20,6 @@ use Rattle.rules.proofs.Listings.{listing_covers, rest_short}
 pub hits_of_more : (s : State) (t : List ℕ) (i : ℕ) → hits_of (accepts s t) i ≡ hits_of s i + hits_with i (listing s.book t)
 hits_of_more s t i = sum_by_push (λ u. hits_with i (listing s.book u)) s.texts t
 
--- what `hits_after` begins with
-pub hits_front : (b : Book) (t : List ℕ) (hs hs' : List Match) (n : ℕ) → n ≡ length (listing b t) → hs' ≡ hits_after {E = Refusal} b t hs (Ok n) → take n hs' ≡ listing b t
-hits_front b t hs hs' n l e = ap (take n) e ∙ take_at (listing b t) (drop (length (listing b t)) hs) n (sym l)
-
 -- an answer and its fault
 pub told_placed : {X : Type 0} (at : ℕ) (r : Result X Refusal) → told (placed at r) ≡ numbered r
 told_placed at (Ok x) = refl
@@ -33,26 +29,23 @@ pub hits_placed : (at : ℕ) (b : Book) (t : List ℕ) (hs : List Match) (r : Re
 hits_placed at b t hs (Ok x) = refl
 hits_placed at b t hs (Err k) = refl
 
--- what is known of a scan that is accepted
-pub record Accepted (b : Book) (n : ℕ) (t : List ℕ) (room k : ℕ) : Type 0 where
-  pub hits : k ≡ length (listing b t)
-  pub short : length t ≤ max_text
-  pub few : n < max_texts
-  pub fits : length (listing b t) ≤ room
+-- an accepted text's hits, as many as the scan answers
+pub accepted : (b : Book) (n : ℕ) (t : List ℕ) (room k : ℕ) → Ok k ≡ scan_answer b n t room → k ≡ length (listing b t)
+accepted b n t room k h = grind (arith, nat_tests)
 
-pub accepted : (b : Book) (n : ℕ) (t : List ℕ) (room k : ℕ) → Ok k ≡ scan_answer b n t room → Accepted b n t room k
-accepted b n t room k h = record { hits = grind (arith, nat_tests); short = grind (arith, nat_tests); few = grind (arith, nat_tests); fits = grind (arith, nat_tests) }
-
-pub accepted_at : (at : ℕ) (b : Book) (n : ℕ) (t : List ℕ) (room k : ℕ) → Ok k ≡ placed at (scan_answer b n t room) → Accepted b n t room k
-accepted_at at b n t room k e = accepted b n t room k (placed_ok at k (scan_answer b n t room) e)
-  where
-    placed_ok : (at k : ℕ) (r : Result ℕ Refusal) → Ok k ≡ placed at r → Ok k ≡ r
-    placed_ok at k (Ok x) e = cc
-    placed_ok at k (Err f) e = cc
-
+-- each is of a pattern that the table of tallies has
 pub listing_ids : (b : Book) (t : List ℕ) → Within b → All (λ m. id_of m < max_patterns) (listing b t)
 listing_ids b t w k d l = let h = All-from_recursion (Occurs b t) (listing b t) (listing_covers b w t).occur k d l in omega (arith, h.here.known, w.few)
 
+-- a text has no more hits than bytes
+pub listing_short : (b : Book) (t : List ℕ) → Within b → length (listing b t) ≤ length t
+listing_short b t w = omega (arith, rest_short b w t 0)
+
+-- the front of a list that the listing was written to
+pub written_front : (b : Book) (t : List ℕ) (hs : List Match) (n : ℕ) → n ≡ length (listing b t) → take n (listing b t ++ hs) ≡ listing b t
+written_front b t hs n long = take_at (listing b t) hs n (sym long)
+
+-- a new table of tallies, and one more text
 zero_at : (n i : ℕ) → ◌≡◌ {A = ℕ} (get_or (replicate n 0) i 0) 0
 zero_at n i = grind (arith, common_steps)
 
@@ -72,11 +65,3 @@ keeps_more s m m' t c k = record {
       ∙ (λ j. k.tallies i l j + hits_with i (listing (k.book j) t))
       ∙ sym (hits_of_more s t i);
 }
-
--- a text has no more hits than bytes
-pub listing_short : (b : Book) (t : List ℕ) → Within b → length (listing b t) ≤ length t
-listing_short b t w = omega (arith, rest_short b w t 0)
-
--- the front of a list that the listing was written to
-pub written_front : (b : Book) (t : List ℕ) (hs : List Match) (n : ℕ) → n ≡ length (listing b t) → take n (listing b t ++ hs) ≡ listing b t
-written_front b t hs n long = take_at (listing b t) hs n (sym long)

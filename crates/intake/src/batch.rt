@@ -8,7 +8,7 @@ use finder::Finder;
 use std::alloc::Global;
 
 /// Calls that are to be made in turn, and a list with room for the reply to each: so that making them needs no memory.
-#[derive(Drop)]
+#[derive(Debug, Drop)]
 pub struct Batch<'a> {
     calls: Vec<Call<'a>>,
     replies: Vec<Reply>,
@@ -58,7 +58,7 @@ impl<'a> Batch<'a> {
     {
         let Batch { calls, mut replies } = self;
         let mut left = calls.into_iter();
-        // No `for`, which asks that a call may be dropped: so calls that may not be would serve as well.
+        // A `for` may drop what it has not come to. Here each call is made, and none is dropped.
         while let Some(call) = left.next() {
             replies.push_reserved(serve(intake, call));
         }

@@ -10,7 +10,7 @@ use finder::Finder;
 use rules::{Fault, Match, PatternID};
 
 /// A call of an intake.
-#[derive(Drop)]
+#[derive(Debug, Drop, PartialEq, Eq)]
 pub enum Call<'a> {
     /// A text, and a list for its hits, which every scan is asked with.
     Scan { text: &'a [u8], hits: Vec<Match> },
@@ -19,7 +19,7 @@ pub enum Call<'a> {
 }
 
 /// What a call came back with. A fault in it is outside a job, at the place 0.
-#[derive(Drop)]
+#[derive(Debug, Drop, PartialEq, Eq)]
 pub enum Reply {
     /// The answer to a scan, and the list that was handed in, as the scan left it.
     Scanned(Result<usize, Fault>, Vec<Match>),
@@ -43,7 +43,7 @@ pub fn serve<F: Finder>(intake: &mut Intake<F>, call: Call<'_>) -> Reply
 }
 
 /// What a batch of calls leaves: the intake, and the reply to each call in turn.
-#[derive(Drop)]
+#[derive(Debug, Drop)]
 pub struct Run<F: Finder> {
     pub intake: Intake<F>,
     pub replies: Vec<Reply>,

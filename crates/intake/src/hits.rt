@@ -5,7 +5,7 @@ ghost use Rattle.rules.specs.Listing.{rest, listing};
 use finder::Finder;
 use rules::Match;
 
-// The hits of a text from a place on: a search from there, then from each hit's end. A hit names its places in the whole text.
+/// The hits of a text from a place on: a search from there, then from each hit's end. A hit names its places in the whole text.
 #[derive(Drop)]
 pub(crate) struct Hits<'a, F: Finder> {
     finder: &'a F,
@@ -39,7 +39,7 @@ impl<F: Finder> Iterator for Hits<'_, F> {
     }
 }
 
-// How many hits a text has.
+/// How many hits a text has.
 #[tactic(auto, using(crate::proofs::Scans::listing_short))]
 pub(crate) fn count_hits<F: Finder>(finder: &F, text: &[u8]) -> usize
     ensures { result ≡ length (listing (F.book finder.now) text.now) }
@@ -47,8 +47,7 @@ pub(crate) fn count_hits<F: Finder>(finder: &F, text: &[u8]) -> usize
     Hits::new(finder, text).count()
 }
 
-// Writes a text's listing to the front of a list that has the room. By `zip` with `iter_mut` nothing is known of the list
-// after the loop.
+/// Writes the hits of a text to the front of a list that has room for them; its later entries stay.
 pub(crate) fn write_hits<F: Finder>(finder: &F, text: &[u8], hits: &mut [Match])
     requires { length (listing (F.book finder.now) text.now) ≤ length hits.old }
     ensures { hits.new ≡ listing (F.book finder.now) text.now ++ drop (length (listing (F.book finder.now) text.now)) hits.old }

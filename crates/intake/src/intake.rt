@@ -11,14 +11,14 @@ use finder::Finder;
 use rules::{Fault, Match, PatternID, Refusal};
 use std::marker::Model;
 
-/// The greatest length of a text.
+/// The greatest length of a text that a scan accepts.
 pub const MAX_TEXT: usize = 65536;
 
-/// How many texts are accepted at most.
+/// How many texts an intake accepts at the most.
 pub const MAX_TEXTS: u32 = 65535;
 
-/// A searcher, the tally of each pattern, and the count of accepted texts.
-#[derive(Drop)]
+/// A searcher, the tally of each pattern of its book, and the count of accepted texts.
+#[derive(Debug, Drop)]
 pub struct Intake<F: Finder> {
     finder: F,
     table: TallyTable,
@@ -38,7 +38,6 @@ impl<F: Finder> Model for Intake<F> {
 
 impl<F: Finder> Intake<F> {
     /// An intake that has accepted no text, with all tallies at 0.
-    #[tactic(auto, using(crate::proofs::Histories::serves_none))]
     pub fn new(finder: F) -> Intake<F>
         ensures book { result.book ≡ F.book finder }
         ensures served { Served (made_over (F.book finder)) result }
@@ -51,7 +50,7 @@ impl<F: Finder> Intake<F> {
     }
 
     /// How often a pattern was hit in the texts accepted so far. An id that the book lacks is refused.
-    #[tactic(auto, using(crate::proofs::Histories::serves_tally, crate::proofs::Histories::refuses_tally))]
+    #[tactic(auto, using(crate::proofs::Histories::answers_tally))]
     pub fn tally(&self, id: PatternID) -> Result<u32, Fault>
         ensures value { result ≡ placed 0 (tally_in self.now id) }
         ensures served { ServesCall self.now (ask_tally id) (told_tally (told result)) self.now }
@@ -80,8 +79,8 @@ impl<F: Finder> Intake<F> {
         self.scan_at(0, text, hits)
     }
 
-    /// The same, with its faults at a place of a job.
-    #[tactic(auto, using(crate::proofs::Histories::refuses_scan, crate::proofs::Histories::serves_scan, crate::proofs::Scans::listing_short, crate::proofs::Scans::written_front, crate::proofs::Scans::listing_ids))]
+    /// A scan of a text in a job, with its faults at a place there.
+    #[tactic(auto, using(crate::proofs::Histories::scan_steps))]
     pub fn scan_at(&mut self, place: usize, text: &[u8], hits: &mut [Match]) -> Result<usize, Fault>
         ensures scans { Scans self.old place text.now hits.old result hits.new self.new }
         ensures served { ServesCall self.old (ask_scan text.now hits.old) (told_scan (told result) hits.new) self.new }

@@ -8,13 +8,13 @@ use pattern::MAX_PATTERNS;
 use rules::{Match, PatternID};
 
 /// How often a pattern was hit.
-#[derive(Clone, Copy)]
+#[derive(Clone, Copy, Debug)]
 pub(crate) struct Tally {
     hits: u32,
 }
 
 impl Tally {
-    // Raises it by one.
+    /// Raises it by one.
     pub(crate) fn raise(&mut self)
         requires { self.old.hits + 1 < 2 ^ 32 }
         ensures { self.new ≡ record { hits = self.old.hits + 1 } }
@@ -23,8 +23,8 @@ impl Tally {
     }
 }
 
-/// The tally of each pattern, by its id. It has a fixed size, so that making one cannot fail.
-#[derive(Drop)]
+/// The tally of each pattern, by its id. It has as many records as a book can have patterns, so that making one cannot fail.
+#[derive(Debug, Drop)]
 pub(crate) struct TallyTable {
     records: [Tally; MAX_PATTERNS],
 }
@@ -38,7 +38,7 @@ impl TallyTable {
         }
     }
 
-    // The tally of a pattern.
+    /// The tally of a pattern.
     #[tactic(auto, using(crate::proofs::Raises::tally_at))]
     pub(crate) fn get(&self, id: PatternID) -> u32
         requires { id < max_patterns }
@@ -47,7 +47,7 @@ impl TallyTable {
         self.records[id.as_usize()].hits
     }
 
-    // Lends the record of a pattern, and raises it. A method that only lends it gets no proof: it is an element of an array.
+    /// Raises the tally of a pattern, in its record.
     #[tactic(auto, using(crate::proofs::Raises::tally_at, crate::proofs::Raises::tallies_set))]
     fn raise(&mut self, id: PatternID)
         requires known { id < max_patterns }
@@ -59,7 +59,7 @@ impl TallyTable {
         record.raise();
     }
 
-    // Raises the tally of each hit.
+    /// Raises the tally of each hit's pattern, once for each hit.
     pub(crate) fn raise_all(&mut self, hits: &[Match])
         requires known { All (λ m. id_of m < max_patterns) hits.now }
         requires room { sum (tallies self.old) + length hits.now < 2 ^ 32 }
