@@ -12,8 +12,8 @@ use std::alloc::Global;
 use std::rc::Rc;
 use std::time::Instant;
 use teddy::Slim;
+use test_random::Xorshift;
 use vector::{ArrayHalf, Double, Single, Vector, WordHalf};
-use xorshift::Xorshift;
 
 /// How many bytes the text has.
 const LEN: usize = 60000;

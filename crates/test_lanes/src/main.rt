@@ -3,8 +3,8 @@
 #![tactic(auto)]
 
 use std::{array, fmt, io};
+use test_random::Xorshift;
 use vector::{ArrayHalf, Double, Half, Single, Vector, WordHalf};
-use xorshift::Xorshift;
 
 /// An operation of a vector. It runs on four types of vectors, and a closure has one.
 #[derive(Clone, Copy)]

@@ -1,5 +1,5 @@
 use std::alloc::{AllocError, Global};
-use xorshift::Xorshift;
+use test_random::Xorshift;
 
 /// Drawn numbers and words, the same in each run.
 #[derive(Drop)]

@@ -1,4 +1,4 @@
--- left k x    x combined by exclusive or with x shifted left by k digits, of which 64 are kept
+-- left k x    x combined by exclusive or with x shifted left by k bits, of which 64 are kept
 -- right k x   the same with x shifted right
 -- stepped x   the state after x
 use Rattle.std.specs.Prelude.{ℕ, ◌*◌, ◌/◌, ◌%◌, ◌^◌, bit_xor}

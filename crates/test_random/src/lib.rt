@@ -1,12 +1,23 @@
-//! Pseudo-random numbers for tests, the same in each run.
+//! Pseudo-random numbers for tests, the same in each run, so that what a test prints can be compared.
+//!
+//! ```
+//! use test_random::Xorshift;
+//!
+//! /// A throw of a die; the one after it comes from the same generator.
+//! fn throw(random: &mut Xorshift) -> u64 {
+//!     random.next() % 6 + 1
+//! }
+//! ```
+//!
+//! `Xorshift::FIRST` is the generator to begin with.
 
 #![tactic(auto)]
 
 ghost use Rattle.std.specs.Prelude.{◌≡◌};
-ghost use Rattle.xorshift.specs.Xorshift.{stepped};
+ghost use Rattle.test_random.specs.Xorshift.{stepped};
 
 /// Marsaglia's xorshift generator with 64 bits of state.
-#[derive(Clone, Copy)]
+#[derive(Clone, Copy, Debug, PartialEq, Eq)]
 pub struct Xorshift {
     pub state: u64,
 }
