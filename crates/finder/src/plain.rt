@@ -21,7 +21,7 @@ impl Plain {
     pub fn new(book: Rc<Book>) -> Plain
         ensures { ⟦<Plain as Finder>⟧.book result ≡ book.value }
     {
-        // A closed book is within the bounds.
+        // The bounds of a book hold of every closed one, and a searcher owes them of its book.
         prove!(book.len() <= MAX_PATTERNS);
         Plain { book }
     }

@@ -15,7 +15,9 @@ pub(crate) struct Hits<'a, F: Finder> {
 
 impl<'a, F: Finder> Hits<'a, F> {
     pub(crate) fn new(finder: &'a F, text: &'a [u8]) -> Hits<'a, F>
-        ensures { (result.finder.now ≡ finder.now) × (result.text.now ≡ text.now) × (result.at ≡ 0) }
+        ensures finder { result.finder.now ≡ finder.now }
+        ensures text { result.text.now ≡ text.now }
+        ensures at { result.at ≡ 0 }
     {
         Hits {
             finder,

@@ -1,4 +1,5 @@
-ghost use Rattle.std.specs.Prelude.{◌≡◌, length};
+ghost use Rattle.std.specs.Prelude.{◌≡◌, ◌≤◌, length};
+ghost use Rattle.rules.specs.Limits.{max_texts};
 ghost use Rattle.rules.specs.Refusals.{number};
 ghost use Rattle.rules.specs.Faults.{placed, told};
 ghost use Rattle.rules.specs.Ledger.{ask_scan, ask_tally, told_scan, told_tally};
@@ -64,6 +65,7 @@ impl<F: Finder> Intake<F> {
     /// How many texts were accepted.
     pub fn count(&self) -> u32
         ensures value { result ≡ self.now.accepted }
+        ensures within { result ≤ max_texts }
         ensures served { (p : Past) → Served p self.now → result ≡ length (state p).texts }
     {
         self.accepted

@@ -1,7 +1,7 @@
--- entering b p   the refusal that the pattern p meets, in checking order
--- checking b c   the refusal of a book that is to be closed and searched with c masks
+-- entering b p      the refusal that the pattern p meets, in checking order
+-- checking b c      the refusal of a book that is to be closed and searched with c masks
 -- Checks b at c r   what the call before closing answers, at the place at
--- Ready b c      the book b may be closed and searched with c masks: it has a pattern, and c is from 1 to max_masks and at most the shortest length
+-- Ready b c         the book b may be closed and searched with c masks: it has a pattern, and c is from 1 to max_masks and at most the shortest length
 use Rattle.std.specs.Prelude.{◌≡◌, ℕ, ◌+◌, ◌<◌, ◌≤◌, cond, List, length, Some, None, Option, Result, MatchOption, MatchResult, ◌==◌, nat_le, nat_lt}
 use Rattle.rules.specs.declared.fault.Fault.{Fault}
 use Rattle.rules.specs.declared.fault.Refusal.{Refusal}

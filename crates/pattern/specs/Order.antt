@@ -1,6 +1,6 @@
 -- times k xs           how often k stands in xs
 -- first_to n           the ids below n, in order of entry
--- placed b n ids       the id n put behind all ids of ids whose patterns are at least as long
+-- inserted b n ids     the id n put behind all ids of ids whose patterns are at least as long
 -- longest_to b n       the ids below n by falling length, equal lengths by rising id
 -- order_by k b         the ids of b in the order of the kind k
 -- order_in b           the ids of b in the order in which patterns are tried: that of its kind
@@ -18,13 +18,13 @@ abbrev pub first_to : ℕ → List ℕ
 first_to zero = []
 first_to (suc n) = first_to n ++ n ∷ []
 
-abbrev pub placed : Book → ℕ → List ℕ → List ℕ
-placed b n [] = n ∷ []
-placed b n (i ∷ ids) = cond (nat_le (size b n) (size b i)) (i ∷ placed b n ids) (n ∷ i ∷ ids)
+abbrev pub inserted : Book → ℕ → List ℕ → List ℕ
+inserted b n [] = n ∷ []
+inserted b n (i ∷ ids) = cond (nat_le (size b n) (size b i)) (i ∷ inserted b n ids) (n ∷ i ∷ ids)
 
 abbrev pub longest_to : Book → ℕ → List ℕ
 longest_to b zero = []
-longest_to b (suc n) = placed b n (longest_to b n)
+longest_to b (suc n) = inserted b n (longest_to b n)
 
 abbrev pub order_by : MatchKind → Book → List ℕ
 order_by LeftmostFirst b = first_to (count_of b)

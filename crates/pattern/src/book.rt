@@ -17,10 +17,10 @@ pub struct Book {
 }
 
 impl Model for Book {
-    ghost use Rattle.rules.specs.Book.{Book as Entries};
+    ghost use Rattle.rules.specs.Book.{Book as RulesBook};
     ghost use Rattle.pattern.specs.Contents.{contents, Sound};
 
-    ghost Value = { Entries };
+    ghost Value = { RulesBook };
 
     ghost view = { λ b. contents b.table };
 
@@ -29,7 +29,7 @@ impl Model for Book {
 
 impl Book {
     /// A book without patterns, of the first kind.
-    pub fn empty(alloc: Global) -> Book
+    pub(crate) fn empty(alloc: Global) -> Book
         ensures { result ≡ empty }
     {
         Book {

@@ -29,9 +29,9 @@ pub struct Patterns {
 }
 
 impl Model for Patterns {
-    ghost use Rattle.rules.specs.Book.{Book as Entries};
+    ghost use Rattle.rules.specs.Book.{Book as RulesBook};
 
-    ghost Value = { Entries };
+    ghost Value = { RulesBook };
 
     ghost view = { λ p. p.book };
 }

@@ -1,4 +1,4 @@
--- The numbers of the rules, by name. The constants of the code are proved equal to them.
+-- The numbers of the rules, by name. Where the code has a constant for one of them, it is proved equal (proofs/Constants).
 -- max_patterns    how many patterns a book takes
 -- max_bytes       how many bytes its patterns have together at the most
 -- max_masks       how many masks a search uses at the most
