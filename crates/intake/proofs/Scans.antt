@@ -1,5 +1,5 @@
 -- One scan, and the ledger's texts.
-use Rattle.std.proofs.Common.{◌≡◌, ℕ, ◌+◌, ◌<◌, ◌≤◌, List, ◌++◌, All, length, get_or, take, drop, replicate, Ok, Err, Result, sym, refl, ap, ◌∙◌, subst, arith}
+use Rattle.std.proofs.Common.{◌≡◌, ℕ, ◌+◌, ◌<◌, ◌≤◌, List, ◌++◌, All, length, get_or, take, replicate, Ok, Err, Result, sym, refl, ap, ◌∙◌, subst, arith}
 use Rattle.std.proofs.lemmas.List.{take_at, length_push}
 use Rattle.std.proofs.lemmas.List.Elements.{All-from_recursion}
 use Rattle.std.proofs.lemmas.List.Sums.{sum_by_push}
@@ -7,7 +7,7 @@ use Rattle.std.proofs.lemmas.Bool.Decides.{nat_tests}
 use Rattle.std.proofs.lemmas.Grind.{common_steps}
 use Rattle.rules.specs.declared.primitives.Match.{Match}
 use Rattle.rules.specs.declared.fault.Refusal.{Refusal}
-use Rattle.rules.specs.Limits.{max_patterns, max_text, max_texts}
+use Rattle.rules.specs.Limits.{max_patterns}
 use Rattle.rules.specs.Book.{Book, Within, count_of}
 use Rattle.rules.specs.Search.{id_of, Occurs}
 use Rattle.rules.specs.Listing.{listing}
