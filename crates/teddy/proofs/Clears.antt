@@ -1,4 +1,4 @@
--- The lowest set digit of a number, and the number without it.
+-- The lowest set bit of a number, and the number without it.
 use Rattle.std.proofs.Common.{◌≡◌, ℕ, suc, ◌+◌, ◌-◌, ◌*◌, ◌/◌, ◌%◌, ◌^◌, ◌<◌, ◌⊎◌, sym, ap, ◌∙◌, subst, inl, inr, mod-lt, arith}
 use Rattle.std.specs.Int.{bit_at, w64}
 use lib.Bits.{bit_and, and_block, and_self}
@@ -7,14 +7,14 @@ use native.Mathlib.Nat.{mod_self}
 use Rattle.std.proofs.lemmas.Nat.{pow_pos, pow_below, and_mask, shr_split}
 use Rattle.std.proofs.lemmas.Nat.Bits.{bit_at-trailing_zeros, bit_at-zero, bit_at-pow_same, bit_at-pow_other, bit_at_above, bit_at_cat_low, bit_at_cat_high, same_from_bits}
 use Rattle.std.proofs.lemmas.Bool.{cases_eq, cases_lt}
-use Rattle.teddy.specs.Digits.{IsSet, Taken}
+use Rattle.teddy.specs.Bits.{IsSet, Taken}
 
--- the number whose lowest set digit is t, with the digits of m above it
+-- the number whose lowest set bit is t, with the bits of m above it
 module _ (m t : ℕ) where
   within : 2 ^ t < 2 ^ suc t
   within = pow_below t (suc t) (omega arith)
 
-  -- the other digits are those of the number without it
+  -- the other bits are those of the number without it
   other : (j : ℕ) → (j ≡ t → ⊥) → bit_at (m * 2 ^ suc t + 2 ^ t) j ≡ bit_at (m * 2 ^ suc t) j
   other j ne =
       let z : m * 2 ^ suc t + 0 ≡ m * 2 ^ suc t = omega arith in
@@ -36,7 +36,7 @@ module _ (m t : ℕ) where
       let e : m * 2 ^ suc t + 2 ^ t - 1 ≡ m * 2 ^ suc t + (2 ^ t - 1) = omega arith in
       rw (e, and_block (suc t) m m (2 ^ t) (2 ^ t - 1) w (omega arith), and_self m, and_mask (2 ^ t) t, mod_self (2 ^ t)) (omega arith)
 
--- a number by its lowest set digit
+-- a number by its lowest set bit
 split : (n t : ℕ) → IsSet n t → ((j : ℕ) → j < t → bit_at n j ≡ 0) → n ≡ n / 2 ^ suc t * 2 ^ suc t + 2 ^ t
 split n t set none =
     let low = n % 2 ^ suc t in

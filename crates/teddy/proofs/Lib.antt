@@ -1,12 +1,11 @@
+mod Constants
 pub mod LookUps
 pub mod Exact
-pub mod Loaded
-pub mod Filled
 pub mod Fronts
 pub mod Marking
 pub mod Standing
 pub mod Clears
-pub mod Digits
+pub mod Lanes64
 pub mod Hits
 pub mod Made
-pub mod Visits
+pub mod Examples

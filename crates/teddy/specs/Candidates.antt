@@ -1,34 +1,42 @@
--- What one window of n lanes gives, from what its masks admit and what they admitted in the window before.
--- met count n a b c d p q r      the lanes in which the first count masks meet, all four for any other count than 1 to 3. a, b, c, d are
---                                what the first to the fourth mask admit; p, q, r what the first to the third admitted in the window
---                                before. Each mask but the last is shifted to the last one's lane
+-- What one window gives, from what its masks admit and what they admitted in the window before. n is the number of lanes, means the
+-- lanes of a vector, count how many masks are used: 1, 2 or 3, and all four for any other number.
+-- all_admitted n means m xs   what each of the masks m admits of the window xs
+-- lanes_of means seen         the lanes of seen
+-- met n a p                   the lanes in which the masks meet. a is what they admit here, p what the first three admitted in the window
+--                             before: each mask but the last is shifted to the last one's lane
 -- candidates n means m seen xs   the candidates of the window xs
--- kept count k old new           what the k-th mask leaves for the next window: what it admits now, unless it is the last of the
---                                count masks or lies behind it: then it leaves old
+-- kept count k old new        what the k-th mask leaves for the next window: what it admits here, unless it is the last one in use or lies
+--                             behind it: then it leaves old
 -- Tests n means m seen xs r seen'   the window xs was tested: r has its candidates, and seen' what each mask leaves for the next window
 use Rattle.std.specs.Prelude.{◌≡◌, ℕ, zero, suc, cond, List, ◌==◌}
 use Rattle.vector.specs.Lanes.{shifted_in, anded}
+use Rattle.teddy.specs.declared.mask.Mask.{Mask}
 use Rattle.teddy.specs.declared.candidate.Masks.{Masks}
 use Rattle.teddy.specs.declared.candidate.Seen.{Seen}
 use Rattle.teddy.specs.Members.{admitted}
 
-abbrev pub met : ℕ → ℕ → List ℕ → List ℕ → List ℕ → List ℕ → List ℕ → List ℕ → List ℕ → List ℕ
-met count n a b c d p q r =
-    cond (count == 1) a
-    (cond (count == 2) (anded n (shifted_in 1 n a p) b)
-    (cond (count == 3) (anded n (anded n (shifted_in 2 n a p) (shifted_in 1 n b q)) c)
-    (anded n (anded n (anded n (shifted_in 3 n a p) (shifted_in 2 n b q)) (shifted_in 1 n c r)) d)))
+abbrev pub all_admitted : {A : Type 0} → ℕ → (A → List ℕ) → Masks (Mask A) → List ℕ → Masks (List ℕ)
+all_admitted n means m xs =
+    record { count = m.count; first = admitted n means m.first xs; second = admitted n means m.second xs; third = admitted n means m.third xs; fourth = admitted n means m.fourth xs }
 
-abbrev pub candidates : {A : Type 0} → ℕ → (A → List ℕ) → Masks A → Seen A → List ℕ → List ℕ
-candidates n means m seen xs =
-    met m.count n (admitted n means m.first xs) (admitted n means m.second xs) (admitted n means m.third xs) (admitted n means m.fourth xs)
-    (means seen.first) (means seen.second) (means seen.third)
+abbrev pub lanes_of : {A : Type 0} → (A → List ℕ) → Seen A → Seen (List ℕ)
+lanes_of means seen = record { first = means seen.first; second = means seen.second; third = means seen.third }
+
+unfoldable pub met : ℕ → Masks (List ℕ) → Seen (List ℕ) → List ℕ
+met n a p =
+    cond (a.count == 1) a.first
+    (cond (a.count == 2) (anded n (shifted_in 1 n a.first p.first) a.second)
+    (cond (a.count == 3) (anded n (anded n (shifted_in 2 n a.first p.first) (shifted_in 1 n a.second p.second)) a.third)
+    (anded n (anded n (anded n (shifted_in 3 n a.first p.first) (shifted_in 2 n a.second p.second)) (shifted_in 1 n a.third p.third)) a.fourth)))
+
+abbrev pub candidates : {A : Type 0} → ℕ → (A → List ℕ) → Masks (Mask A) → Seen A → List ℕ → List ℕ
+candidates n means m seen xs = met n (all_admitted n means m xs) (lanes_of means seen)
 
 abbrev pub kept : ℕ → ℕ → List ℕ → List ℕ → List ℕ
 kept count zero old new = new
 kept count (suc k) old new = cond (count == suc k) old (kept count k old new)
 
-pub record Tests {A : Type 0} (n : ℕ) (means : A → List ℕ) (m : Masks A) (seen : Seen A) (xs : List ℕ) (r : A) (seen' : Seen A) : Type 0 where
+pub record Tests {A : Type 0} (n : ℕ) (means : A → List ℕ) (m : Masks (Mask A)) (seen : Seen A) (xs : List ℕ) (r : A) (seen' : Seen A) : Type 0 where
   pub found : means r ≡ candidates n means m seen xs
   pub first : means seen'.first ≡ kept m.count 1 (means seen.first) (admitted n means m.first xs)
   pub second : means seen'.second ≡ kept m.count 2 (means seen.second) (admitted n means m.second xs)

@@ -1,9 +1,10 @@
-pub mod Members
-pub mod Candidates
-pub mod Places
+pub mod Bits
 pub mod Buckets
 pub mod Masks
 pub mod Rules
-pub mod Digits
-pub mod Held
-pub mod Searched
+pub mod Members
+pub mod Candidates
+pub mod Windows
+pub mod Teddy
+pub mod Slim
+pub mod Examples

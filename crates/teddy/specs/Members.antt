@@ -9,7 +9,7 @@ use Rattle.teddy.specs.declared.mask.Mask.{Mask}
 abbrev pub repeated : ℕ → List ℕ → List ℕ
 repeated n t = row n (λ i. lane t (i % 16))
 
-abbrev pub members : ℕ → List ℕ → List ℕ → List ℕ → List ℕ
+unfoldable pub members : ℕ → List ℕ → List ℕ → List ℕ → List ℕ
 members n lo hi xs = row n (λ i. bit_and (lane lo (i / 16 * 16 + lane xs i % 16)) (lane hi (i / 16 * 16 + lane xs i / 16)))
 
 abbrev pub admitted : {A : Type 0} → ℕ → (A → List ℕ) → Mask A → List ℕ → List ℕ

@@ -1,14 +1,12 @@
 //! A mask as vectors, and the membership tests.
 ghost use Rattle.std.specs.Prelude.{◌≡◌, ◌/◌, ◌%◌};
 ghost use Rattle.vector.specs.Lanes.{lane, row};
-ghost use Rattle.teddy.specs.Members.{repeated, admitted};
 
 use crate::mask_table::MaskTable;
-use std::array;
 use vector::Vector;
 
 /// For each low and each high nybble the buckets that it is admitted for, in each half.
-#[derive(Clone, Copy)]
+#[derive(Clone, Copy, Debug, PartialEq, Eq)]
 pub struct Mask<V> {
     pub lo: V,
     pub hi: V,
@@ -26,45 +24,35 @@ fn nybbles<V: Vector>(chunk: V) -> (V, V)
     (hlo, hhi)
 }
 
-/// Sixteen bytes in each half.
-fn load_table<V: Vector>(table: &[u8; 16]) -> V
-    ensures { V.lanes result ≡ repeated V.count table.now }
-{
-    let twice: [u8; 32] = array::from_fn(|i| table[i % 16]);
-    V::load(&twice, 0)
-}
-
 impl<V: Vector> Mask<V> {
-    /// The mask of two byte tables.
+    ghost use Rattle.teddy.specs.Members.{repeated, admitted};
+
+    /// The mask of two byte tables, each in both halves: a look-up in a doubled vector stays within a half.
+    #[tactic(auto, using(crate::proofs::LookUps::in_halves))]
     pub fn load(table: &MaskTable) -> Mask<V>
         ensures lo { V.lanes result.lo ≡ repeated V.count table.now.lo }
         ensures hi { V.lanes result.hi ≡ repeated V.count table.now.hi }
     {
+        let lo = [table.lo, table.lo];
+        let hi = [table.hi, table.hi];
         Mask {
-            lo: load_table(&table.lo),
-            hi: load_table(&table.hi),
+            lo: V::load(lo.as_flattened(), 0),
+            hi: V::load(hi.as_flattened(), 0),
         }
     }
 
-    /// The buckets that a mask admits for each byte of a chunk.
+    /// The buckets that a mask admits for each byte of a chunk: those that both its low and its high nybble are admitted for. The byte
+    /// itself need not be that of any pattern in them.
+    #[tactic(auto, using(crate::proofs::LookUps::looked_up))]
     pub fn members1(chunk: V, mask: Mask<V>) -> V
         ensures { V.lanes result ≡ admitted V.count V.lanes mask (V.lanes chunk) }
     {
-        mask.look_up(chunk)
-    }
-
-    // Beside `members1`, since it is proved by hand: an edit of the public function is to be refused at its own line.
-    /// Looks both nybbles of each byte up, and takes the buckets that both have.
-    fn look_up(self, chunk: V) -> V
-        ensures { V.lanes result ≡ admitted V.count V.lanes self (V.lanes chunk) }
-    {
         let (hlo, hhi) = nybbles(chunk);
-        let locand = self.lo.shuffle_bytes(hlo);
-        let hicand = self.hi.shuffle_bytes(hhi);
+        let locand = mask.lo.shuffle_bytes(hlo);
+        let hicand = mask.hi.shuffle_bytes(hhi);
         locand.and(hicand)
     }
 
-    // A function for each number of masks, which answers a tuple: a rule of the project.
     /// The same for two masks.
     pub fn members2(chunk: V, first: Mask<V>, second: Mask<V>) -> (V, V)
         ensures one { V.lanes result.0 ≡ admitted V.count V.lanes first (V.lanes chunk) }

@@ -2,7 +2,6 @@ use Rattle.std.proofs.Common.{◌≡◌, ℕ, Bool, List, Option, Some, None, ru
 use Rattle.std.proofs.lemmas.Iterator.{YieldsList-from_slice}
 use Rattle.std.proofs.lemmas.Iterator.Search.{find_from_yields_List}
 use Rattle.rules.specs.Book.{pattern}
-use Rattle.pattern.specs.Closed.{book_of}
 use Rattle.teddy.specs.Buckets.{alike, front}
 use Rattle.teddy.proofs.Fronts.{alike_is}
 use Rattle.teddy.proofs.bucket.leader_of.Goals as goal
@@ -15,7 +14,7 @@ found_is test xs (Some y) r e is = rw (← e) is
 
 pub returns : goal.returns
 returns c =
-    let b = book_of c.args.book.now in
+    let b = c.args.book.now in
     let test : ℕ → Bool = λ i. alike (pattern b i) c.args.pattern.now (front b) in
     let xs = c.order.result.now in
     let n : c.min-n.result ≡ front b = omega (arith, c.min-n.ensures, c.minimum_len.ensures) in

@@ -1,5 +1,5 @@
--- IsSet n j         the binary digit j of the number n is 1
--- Taken n bit rest  bit is the lowest digit that is set in n, and rest is n without it (`kept` and `others` follow from the rest)
+-- IsSet n j         bit j of the number n is 1
+-- Taken n bit rest  bit is the lowest bit that is set in n, and rest is n without it (`kept` and `others` follow from the rest)
 use Rattle.std.specs.Prelude.{◌≡◌, ℕ, ◌+◌, ◌/◌, ◌%◌, ◌^◌, ◌<◌, ◌⊎◌}
 
 abbrev pub IsSet : ℕ → ℕ → Type 0

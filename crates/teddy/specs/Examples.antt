@@ -1,4 +1,4 @@
--- Worked examples of the definitions: what searches answer, what bytes hash to, and what is shifted in.
+-- Worked examples of the definitions that searches stand on: what is found, what bytes hash to, and what is shifted in.
 -- first ps, longest ps   the books of the patterns ps, of either kind
 -- at i s e               the match of the pattern i from s to e
 -- Lines                  the examples, together

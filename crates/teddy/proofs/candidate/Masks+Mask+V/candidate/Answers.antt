@@ -1,8 +1,10 @@
 use Rattle.std.proofs.Common.{◌≡◌, false, eqb, refl, arith}
 use Rattle.std.proofs.lemmas.Bool.Decides.{nat_tests}
-use Rattle.teddy.proofs.candidate.Masks.candidate.Goals as goal
+use Rattle.teddy.specs.Candidates.{met}
+use Rattle.teddy.proofs.candidate.Masks+Mask+V.candidate.Goals as goal
 
 pub returns-in_default-clause-found : goal.returns-in_default-clause-found
+unfolding met
 returns-in_default-clause-found g c =
     let n = c.args.self.now.count in
     let e₁ : eqb n 1 ≡ false = grind (arith, nat_tests) in

@@ -5,7 +5,7 @@ use Rattle.rules.specs.Search.{id_of, choice, found_within, found}
 use Rattle.rules.specs.Listing.{hits_from, rest}
 use Rattle.rules.proofs.Rule.{found_unique}
 use Rattle.vector.specs.Lanes.{row}
-use Rattle.lines.specs.Lines.{Lines}
+use Rattle.teddy.specs.Examples.{Lines}
 
 none_in_empty : (b : Book) → Within b → (from : ℕ) → found b [] from ≡ None
 none_in_empty b within from = sym (found_unique b [] from None (λ o h le. omega (arith, h.here.stands.0, within.some (id_of o) h.here.known)))
