@@ -2,11 +2,13 @@
 -- below key order n      the ids of the buckets below n
 -- filled keys order b i  the ids while the bucket b is filled, once the first i of the order were looked at
 use Rattle.std.proofs.Common.{◌≡◌, ℕ, zero, suc, ◌+◌, ◌%◌, ◌<◌, ◌≤◌, Bool, cond, eqb, ltb, List, [], ◌∷◌, ◌++◌, length, get_or, take, count_by, sym, refl, ap, ◌∙◌, append_assoc, add-one, arith, length-append}
+use Rattle.std.proofs.lemmas.Grind.{common_steps}
 use Rattle.std.proofs.lemmas.List.Sums.{sum_by-cons, sum_by-take-le, length-filter, count_by-le-length, count_by_more_yes}
 use Rattle.std.proofs.lemmas.Bool.Decides.{nat_tests}
 use Rattle.std.proofs.lemmas.List.Elements.{filter_more}
 use Rattle.std.proofs.lemmas.List.{append-nil, take_all}
 use Rattle.std.proofs.lemmas.Bool.{eq-eqb, ne_eqb, cond-true, cond-false}
+use Rattle.rules.specs.Limits.{hash_buckets}
 use Rattle.rabinkarp.specs.Buckets.{in_bucket}
 
 unfoldable pub below : (ℕ → ℕ) → List ℕ → ℕ → List ℕ
@@ -36,17 +38,13 @@ module _ (key : ℕ → ℕ) where
       let p : ℕ → Bool = λ x. eqb (key x) b in
       omega (arith, length-below order b, length-filter p (take i order), count_by_more_yes p order i 0 il (eq-eqb (key (get_or order i 0)) b e), sum_by-take-le (λ x. cond (eqb (key x) b) 1 0) order (i + 1), count_split b order, count_by-le-length (λ x. ltb (key x) (suc b)) order)
 
-pub below_none : (key : ℕ → ℕ) (order : List ℕ) → below key order 0 ≡ []
-unfolding below
-below_none key order = refl
-
 pub below_next : (key : ℕ → ℕ) (order : List ℕ) (b : ℕ) → below key order (b + 1) ≡ below key order b ++ in_bucket key order b
 unfolding below
 below_next key order b = rw (add-one)
 
 -- the bucket of an id by its key
 abbrev pub key_of : List ℕ → ℕ → ℕ
-key_of keys id = get_or keys id 0 % 64
+key_of keys id = get_or keys id 0 % hash_buckets
 
 unfoldable pub filled : List ℕ → List ℕ → ℕ → ℕ → List ℕ
 filled keys order b i = below (key_of keys) order b ++ in_bucket (key_of keys) (take i order) b
@@ -60,7 +58,7 @@ module _ (keys order : List ℕ) where
   unfolding filled below
   filled_first = refl
 
-  pub filled_with : (b i : ℕ) → i < length order → get_or keys (get_or order i 0) 0 % 64 ≡ b → filled keys order b (i + 1) ≡ filled keys order b i ++ get_or order i 0 ∷ []
+  pub filled_with : (b i : ℕ) → i < length order → get_or keys (get_or order i 0) 0 % hash_buckets ≡ b → filled keys order b (i + 1) ≡ filled keys order b i ++ get_or order i 0 ∷ []
   unfolding filled
   filled_with b i l e =
       let id = get_or order i 0 in
@@ -68,7 +66,7 @@ module _ (keys order : List ℕ) where
       filter_more (λ y. eqb (key_of keys y) b) order i 0 l ∙ ap (λ q. in_bucket (key_of keys) (take i order) b ++ q) (cond-true (eqb (key_of keys id) b) (id ∷ []) [] (eq-eqb (key_of keys id) b e)) in
       ap (λ q. below (key_of keys) order b ++ q) one ∙ sym (append_assoc (below (key_of keys) order b) (in_bucket (key_of keys) (take i order) b) (id ∷ []))
 
-  pub filled_without : (b i : ℕ) → i < length order → (get_or keys (get_or order i 0) 0 % 64 ≡ b → ⊥) → filled keys order b (i + 1) ≡ filled keys order b i
+  pub filled_without : (b i : ℕ) → i < length order → (get_or keys (get_or order i 0) 0 % hash_buckets ≡ b → ⊥) → filled keys order b (i + 1) ≡ filled keys order b i
   unfolding filled
   filled_without b i l ne =
       let id = get_or order i 0 in
@@ -82,8 +80,8 @@ module _ (keys order : List ℕ) where
   filled_next b i le = ap (λ q. below (key_of keys) order b ++ in_bucket (key_of keys) q b) (take_all i order le) ∙ (sym (below_next (key_of keys) order b) ∙ sym (append-nil (below (key_of keys) order (b + 1))))
 
   -- while one of a bucket is still to come there is room
-  pub filled_room : (b i : ℕ) → i < length order → get_or keys (get_or order i 0) 0 % 64 ≡ b → length (filled keys order b i) < length order
+  pub filled_room : (b i : ℕ) → i < length order → get_or keys (get_or order i 0) 0 % hash_buckets ≡ b → length (filled keys order b i) < length order
   unfolding filled
   filled_room b i l e = omega (arith, length-append (below (key_of keys) order b) (in_bucket (key_of keys) (take i order) b), room (key_of keys) order b i l e)
 
-pub ruleset filling = (filled_first, filled_with, filled_without, filled_next, filled_room)
+pub ruleset filling = (filled_first, filled_with, filled_without, filled_next, filled_room, common_steps)

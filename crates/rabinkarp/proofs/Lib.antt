@@ -5,3 +5,4 @@ pub mod Members
 pub mod Windows
 pub mod Prefixes
 pub mod Bucket
+pub mod Found

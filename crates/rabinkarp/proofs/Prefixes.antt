@@ -2,7 +2,8 @@
 use Rattle.std.proofs.Common.{◌≡◌, ℕ, ◌+◌, ◌-◌, ◌^◌, ◌<◌, ◌≤◌, min, List, [], length, take, drop, sym, ap, ◌∙◌}
 use Rattle.std.specs.List.{fold, slice_index_or}
 use Rattle.rules.specs.declared.primitives.MatchKind.TheVariants.{LeftmostFirst}
-use Rattle.std.proofs.lemmas.List.{take-append-le}
+use Rattle.std.proofs.lemmas.Grind.{get_or_default_zero}
+use Rattle.std.proofs.lemmas.List.{take-append-le, length-take-le}
 use Rattle.std.proofs.lemmas.List.Prefix.{at_from_reads}
 use Rattle.rules.specs.Book.{Book, count_of, pattern, shortest}
 use Rattle.rules.specs.Search.{Stands}
@@ -16,6 +17,9 @@ front_fits ps i l = shortest_le record { kind = LeftmostFirst; patterns = ps } i
 
 -- a pattern that stands at a place has the hash of the window there
 pub standing_hash : (b : Book) (t : List ℕ) (i s : ℕ) → i < count_of b → Stands (pattern b i) t s → prefix_hash b i ≡ hash_of (window t (shortest b) s)
+unfolding prefix_hash
 standing_hash b t i s known st =
     let p = pattern b i in
     ap hash_of (sym (ap (take (shortest b)) (at_from_reads 0 t p s st.0 st.1) ∙ take-append-le (shortest b) p (drop (s + length p) t) (shortest_le b i known)))
+
+pub ruleset fronts = (front_fits, get_or_default_zero, length-take-le)

@@ -15,7 +15,7 @@ pub const NUM_BUCKETS: usize = 64;
 /// The ids of a book in buckets: those of all buckets one after another, and where each bucket starts. A list for each bucket
 /// would have to be as long as a book has patterns at the most, since all of them can lie in one bucket: 256 KB. The tables have
 /// the bounds of a book, so that making them cannot refuse.
-#[derive(Drop)]
+#[derive(Debug, Drop)]
 pub struct Buckets {
     ids: ArrayVec<PatternID, MAX_PATTERNS>,
     /// Where each bucket starts, and at last where the last one ends.
@@ -29,7 +29,7 @@ impl Buckets {
 
     /// Puts each id of a book into the bucket that its key is modulo `NUM_BUCKETS`; `keys` has the key of each id, in a table of
     /// fixed size, so that making it cannot refuse. Within a bucket the ids are in the order of the book's kind.
-    #[tactic(auto, using(crate::proofs::Filling::filling, std::proofs::lemmas::Grind::common_steps))]
+    #[tactic(auto, using(crate::proofs::Filling::filling))]
     pub fn new(book: &Book, keys: &[usize; MAX_PATTERNS]) -> Buckets
         ensures { Holds result (λ id. slice_index keys.now id % hash_buckets) (order_in book.now) }
     {

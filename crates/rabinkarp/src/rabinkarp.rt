@@ -1,7 +1,6 @@
-ghost use Rattle.std.specs.Prelude.{◌≡◌, ℕ, ◌<◌, slice_index};
+ghost use Rattle.std.specs.Prelude.{◌≡◌, ℕ, ◌<◌, ◌≤◌, length, slice_index};
 ghost use Rattle.rules.specs.Book.{Within, count_of, shortest};
-ghost use Rattle.rules.specs.Search.{found};
-ghost use Rattle.rules.specs.Places.{AnswersAt, Verified};
+ghost use Rattle.rules.specs.Search.{found_within};
 ghost use Rattle.rabinkarp.specs.Hash.{hash_of, window};
 ghost use Rattle.rabinkarp.specs.Prefixes.{prefix_hash};
 ghost use Rattle.rabinkarp.specs.Prepared.{Prepared};
@@ -10,11 +9,18 @@ use crate::buckets::Buckets;
 use crate::rolling::{hash, hash_2pow, update_hash};
 use finder::{Finder, Searcher, verify};
 use pattern::{Book, MAX_PATTERNS};
-use rules::{Match, PatternID};
+use rules::Match;
 use std::rc::Rc;
 
-/// The searcher that compares a pattern only where the hash of the text's next bytes is that of the pattern's first ones.
-/// The hash moves on with the text, one byte at a time.
+/// The searcher that compares a pattern only where the hash of the text's next bytes is that of the pattern's first ones. The
+/// hash moves on with the text, one byte at a time.
+///
+/// As many bytes are hashed as the shortest pattern has: so one hash of the text serves the patterns of every length, each of
+/// which has that many first bytes. The price is that beside a short pattern a hash tells little of the long ones: with a pattern
+/// of one byte in the book, all patterns that begin alike have one hash, and are compared wherever that byte stands.
+///
+/// All patterns that occur at a place have the hash of the bytes there, and so lie in one bucket. The first in it that occurs is
+/// the answer, since within a bucket the ids stand in the order in which the book's kind prefers them.
 #[derive(Drop)]
 pub struct RabinKarp {
     book: Rc<Book>,
@@ -27,20 +33,6 @@ pub struct RabinKarp {
     hash_2pow: usize,
     ghost within: { Within book.value },
     ghost prepared: { Prepared book.value buckets hashes hash_len hash_2pow },
-}
-
-/// The hash of each pattern's first bytes, as many as the shortest pattern has, at its id. The table has a fixed size, so that
-/// making it cannot refuse.
-#[tactic(auto, using(crate::proofs::Prefixes::front_fits, std::proofs::lemmas::Grind::common_steps, std::proofs::lemmas::Grind::elements))]
-fn hashes(book: &Book) -> [usize; MAX_PATTERNS]
-    ensures { (i : ℕ) → i < count_of book.now → slice_index result i ≡ prefix_hash book.now i }
-{
-    let len = book.minimum_len();
-    let mut hashes = [0; MAX_PATTERNS];
-    for id in book.order() {
-        hashes[id.as_usize()] = hash(&book.get(*id)[..len]);
-    }
-    hashes
 }
 
 impl RabinKarp {
@@ -68,46 +60,37 @@ impl RabinKarp {
         &self.book
     }
 
-    // Beside `find_here`, since that is proved by hand: an edit is to be refused at this line.
-    /// The match of a pattern at a place, if it occurs there.
-    fn verify(&self, id: PatternID, text: &[u8], start: usize) -> Option<Match>
-        ensures { Verified self.now.book.value id text.now start result }
-    {
-        verify(&self.book, id, text, start)
-    }
-
-    /// The pattern that is found at one place, where the text's next bytes have a hash: the first of its bucket that stands
-    /// there.
+    /// What is found at one place of a text, where the next bytes have a hash: the first pattern of its bucket that occurs there.
+    #[tactic(auto, using(crate::proofs::Bucket::first_in_bucket))]
     fn find_here(&self, text: &[u8], start: usize, hash: usize) -> Option<Match>
-        requires { hash ≡ hash_of (window text.now (shortest self.now.book.value) start) }
-        ensures { AnswersAt self.now.book.value text.now start result }
+        requires within { start ≤ length text.now }
+        requires hashed { hash ≡ hash_of (window text.now (shortest self.now.book.value) start) }
+        ensures { result ≡ found_within self.now.book.value text.now 1 start }
     {
-        // A loop: with `filter` and `find_map` the check does not find the answer.
         for id in self.buckets.bucket(hash) {
-            if self.hashes[id.as_usize()] == hash {
-                if let Some(hit) = self.verify(*id, text, start) {
-                    return Some(hit);
-                }
+            if self.hashes[id.as_usize()] != hash {
+                continue;
+            }
+            if let Some(hit) = verify(&self.book, *id, text, start) {
+                return Some(hit);
             }
         }
         None
     }
+}
 
-    /// Tries place after place.
-    fn find_at(&self, text: &[u8], at: usize) -> Option<Match>
-        ensures { result ≡ found self.now.book.value text.now at }
-    {
-        let len = self.hash_len;
-        let mut hash = hash(text.get(at..)?.get(..len)?);
-        // A loop by place: the hash moves on with it.
-        for start in at..text.len() - len {
-            if let Some(hit) = self.find_here(text, start, hash) {
-                return Some(hit);
-            }
-            hash = update_hash(hash, self.hash_2pow, text[start], text[start + len]);
-        }
-        self.find_here(text, text.len() - len, hash)
+/// The hash of each pattern's first bytes, as many as the shortest pattern has, at its id. The table has a fixed size, so that
+/// making it cannot refuse.
+#[tactic(auto, using(crate::proofs::Prefixes::fronts), unfolding(crate::specs::Prefixes::prefix_hash))]
+fn hashes(book: &Book) -> [usize; MAX_PATTERNS]
+    ensures { (i : ℕ) → i < count_of book.now → slice_index result i ≡ prefix_hash book.now i }
+{
+    let len = book.minimum_len();
+    let mut hashes = [0; MAX_PATTERNS];
+    for id in book.order() {
+        hashes[id.as_usize()] = hash(&book.get(*id)[..len]);
     }
+    hashes
 }
 
 impl Finder for RabinKarp {
@@ -119,8 +102,19 @@ impl Finder for RabinKarp {
         self.book.len()
     }
 
+    /// Tries place after place.
+    #[tactic(auto, using(crate::proofs::Found::place_by_place))]
     fn find(&self, text: &[u8], at: usize) -> Option<Match> {
-        self.find_at(text, at)
+        let len = self.hash_len;
+        let mut hash = hash(text.get(at..)?.get(..len)?);
+        // By the place, with which the hash moves on.
+        for start in at..text.len() - len {
+            if let Some(hit) = self.find_here(text, start, hash) {
+                return Some(hit);
+            }
+            hash = update_hash(hash, self.hash_2pow, text[start], text[start + len]);
+        }
+        self.find_here(text, text.len() - len, hash)
     }
 }
 

@@ -1,11 +1,12 @@
-use Rattle.std.proofs.Common.{◌≡◌, ℕ, ◌≤◌, length, get_or}
+use Rattle.std.proofs.Common.{◌≡◌, ℕ, ◌+◌, ◌≤◌, length, get_or}
+use Rattle.rules.specs.Limits.{hash_buckets}
 use Rattle.rabinkarp.proofs.Filling.{filled}
 use Rattle.rabinkarp.proofs.buckets.Buckets.new.Given as goal
 
 abbrev pub invariant-loop-k : goal.invariant-loop-k
 invariant-loop-k l = record {
   all : l.ids.items ≡ filled l.keys l.order l.k 0;
-  long : length l.starts ≡ 65;
+  long : length l.starts ≡ hash_buckets + 1;
   started : (j : ℕ) → j ≤ l.k → get_or l.starts j 0 ≡ length (filled l.keys l.order j 0);
 }
 

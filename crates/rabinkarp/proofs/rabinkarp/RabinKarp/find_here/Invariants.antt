@@ -1,7 +1,7 @@
-use Rattle.std.proofs.Common.{ℕ, ◌<◌, get_or}
-use Rattle.rules.specs.Search.{OccursAt}
-use Rattle.rabinkarp.proofs.Bucket.{ids_of}
+use Rattle.std.proofs.Common.{◌≡◌, drop}
+use Rattle.rules.specs.Search.{found_within}
+use Rattle.rabinkarp.proofs.Bucket.{first_of}
 use Rattle.rabinkarp.proofs.rabinkarp.RabinKarp.find_here.Given as goal
 
 abbrev pub invariant-loop-id : goal.invariant-loop-id
-invariant-loop-id l = (j : ℕ) → j < l.id-index → OccursAt l.self.book.value l.text (get_or (ids_of l.self l.hash) j 0) l.start → ⊥
+invariant-loop-id l = found_within l.self.book.value l.text 1 l.start ≡ first_of l.self.book.value l.text l.start (drop l.id-index l.id-items)
