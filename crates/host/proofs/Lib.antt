@@ -1,3 +1,4 @@
 pub mod Texts
 pub mod Sizes
 pub mod Unchanged
+mod Constants

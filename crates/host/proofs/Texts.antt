@@ -6,14 +6,16 @@ use Rattle.rules.specs.declared.fault.Fault.{Fault}
 use Rattle.rules.specs.declared.fault.Refusal.{Refusal}
 use Rattle.rules.specs.Book.{Book}
 use Rattle.job.specs.Format.{Step, over, bad, good, step}
-use Rattle.job.specs.Records.{reading}
-use Rattle.job.specs.Opening.{texts, opened, MemoryFault, Refuses}
+use Rattle.job.specs.Reading.{reading}
+use Rattle.job.specs.Texts.{texts}
+use Rattle.job.specs.Opening.{opened}
+use Rattle.job.specs.Memory.{MemoryFault, Refuses}
 use Rattle.job.proofs.Openings.{open_memory}
 use Rattle.job.proofs.Steps.{step_end}
 use Rattle.job.proofs.Readings.{reading_good, reading_bad, reading_over}
 use Rattle.host.specs.declared.miss.Miss.TheVariants.{Refused}
 use Rattle.host.specs.declared.searcher.SearcherKind.{SearcherKind}
-use Rattle.host.specs.Outcomes.{text_in, text_of_first, first_text, text_for, hit_in, in_book, outcome, TurnedDown}
+use Rattle.host.specs.Outcomes.{text_in, text_of_first, first_text, text_for, hit_in, in_book, outcome, FailsWith}
 
 -- a refusal is not past the end
 bad_within : (job : List ℕ) (at : ℕ) (r : Refusal) → step job at ≡ bad r → at ≤ length job
@@ -31,6 +33,6 @@ outcome_is job held place x at b book same left =
     grind (arith, common_steps)
 
 -- a job that is refused, or for whose patterns there is no memory
-pub not_opened : (job : List ℕ) (place : ℕ) (x : SearcherKind) (f : Fault) → Refuses (opened job) (MemoryFault job) f → TurnedDown job (outcome job place x) (Refused f.refusal)
+pub not_opened : (job : List ℕ) (place : ℕ) (x : SearcherKind) (f : Fault) → Refuses (opened job) (MemoryFault job) f → FailsWith job (outcome job place x) (Refused f.refusal)
 not_opened job place x f (inl d) = inl (ap (λ r. in_book r x (first_text job) place) d)
 not_opened job place x f (inr w) = inr ((f, w), ap Refused (open_memory job f w))

@@ -9,9 +9,10 @@ use Rattle.rules.specs.declared.fault.Refusal.TheVariants.{Memory}
 use Rattle.rules.specs.Refusals.{number}
 use Rattle.rules.specs.Book.{Book}
 use Rattle.pattern.specs.Contents.{empty}
-use Rattle.job.specs.Format.{Entry, pattern, first, longest, text, bad, step}
-use Rattle.job.specs.Records.{Item, reading_from, reading}
-use Rattle.job.specs.Opening.{heading, texts_from, takes, and_then, fill, closed_at, opening, opened}
+use Rattle.job.specs.Format.{Entry, a_pattern, kind_first, kind_longest, a_text, bad, step}
+use Rattle.job.specs.Reading.{Item, reading_from, reading}
+use Rattle.job.specs.Texts.{heading, texts_from}
+use Rattle.job.specs.Opening.{takes, and_then, fill, closed_at, opening, opened}
 use Rattle.host.specs.declared.miss.Miss.TheVariants.{Refused}
 use Rattle.host.specs.declared.searcher.SearcherKind.{SearcherKind}
 use Rattle.host.specs.Outcomes.{first_text, in_book, outcome}
@@ -36,10 +37,10 @@ reading_named (suc n) job at = grind (arith, step_named, reading_named n job)
 
 -- what records do to a book, and closing it
 takes_named : (b : Book) (at : ℕ) (e : Entry) → Opens (takes b at e)
-takes_named b at (pattern p) = grind arith
-takes_named b at first = tt
-takes_named b at longest = tt
-takes_named b at (text t) = tt
+takes_named b at (a_pattern p) = grind arith
+takes_named b at kind_first = tt
+takes_named b at kind_longest = tt
+takes_named b at (a_text t) = tt
 
 then_named : (d : Result Book Fault) (f : Book → Result Book Fault) → Opens d → ((c : Book) → Opens (f c)) → Opens (and_then d f)
 then_named (Ok b) f h k = k b

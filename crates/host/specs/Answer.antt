@@ -6,20 +6,20 @@
 -- code d                  the number that the answer d has: 0 for a hit
 -- buffer_after d old      the bytes of the buffer then: those of the hit, else the old ones
 -- SmallAnswer d           the numbers of a hit are small, so that four bytes hold each
--- Replies j x d r old new   the number r, and a buffer that held old and then new, are those of the answer d; a call that is in order
---                           and wants memory may also meet want of it, which has the number 103 and writes nothing
-use Rattle.std.specs.Prelude.{◌≡◌, ℕ, true, cond, ◌⊎◌, List, is_some, Some, None, Ok, Err, Option, Result, ◌==◌}
+-- Replies j p x r old new the number r, and a buffer that held old and then new, are those of the answer; a call that is in order and
+--                         wants memory may also meet want of it, and then writes nothing
+use Rattle.std.specs.Prelude.{◌≡◌, ℕ, ◌⊎◌, List, IsSome, Some, None, Ok, Err, Option, Result, ◌==◌, if◌then◌else◌}
 use Rattle.rules.specs.declared.primitives.Match.{Match}
 use Rattle.host.specs.declared.miss.Miss.{Miss}
 use Rattle.host.specs.declared.miss.Miss.TheVariants.{Miscalled}
 use Rattle.host.specs.declared.searcher.SearcherKind.{SearcherKind}
 use Rattle.host.specs.Searchers.{searcher_of}
-use Rattle.host.specs.Misses.{number_of}
+use Rattle.host.specs.Misses.{no_memory, number_of}
 use Rattle.host.specs.Outcomes.{outcome, WantsMemory, Small}
-use Rattle.host.specs.Written.{written}
+use Rattle.host.specs.MatchBytes.{answer_bytes, match_bytes}
 
 abbrev pub called : ℕ → ℕ → ℕ → Option SearcherKind
-called s c n = cond (n == 12) (searcher_of s c) None
+called s c n = if n == answer_bytes then searcher_of s c else None
 
 abbrev pub call_hit : List ℕ → ℕ → Option SearcherKind → Result Match Miss
 call_hit job place None = Err Miscalled
@@ -37,12 +37,14 @@ code (Ok m) = 0
 code (Err n) = n
 
 abbrev pub buffer_after : Result Match ℕ → List ℕ → List ℕ
-buffer_after (Ok m) old = written m
+buffer_after (Ok m) old = match_bytes m
 buffer_after (Err n) old = old
 
 abbrev pub SmallAnswer : Result Match ℕ → Type 0
 SmallAnswer (Ok m) = Small m
 SmallAnswer (Err n) = Unit {0}
 
-abbrev pub Replies : List ℕ → Option SearcherKind → Result Match ℕ → ℕ → List ℕ → List ℕ → Type 0
-Replies job x d r old new = ((r ≡ code d) × (new ≡ buffer_after d old)) ⊎ ((is_some x ≡ true) × WantsMemory job × (r ≡ 103) × (new ≡ old))
+abbrev pub Replies : List ℕ → ℕ → Option SearcherKind → ℕ → List ℕ → List ℕ → Type 0
+Replies job place x r old new =
+    ((r ≡ code (answer job place x)) × (new ≡ buffer_after (answer job place x) old))
+    ⊎ (IsSome x × WantsMemory job × (r ≡ no_memory) × (new ≡ old))

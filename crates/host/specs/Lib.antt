@@ -1,4 +1,4 @@
-pub mod Written
+pub mod MatchBytes
 pub mod Searchers
 pub mod Misses
 pub mod Outcomes

@@ -1,14 +1,19 @@
 -- searcher_of s c   the searcher with the number s, and with the mask count c where it has masks
--- misfits x b       whether the searcher x has a mask count that the book b does not permit
-use Rattle.std.specs.Prelude.{ℕ, Bool, false, cond, Some, None, Option, ◌==◌}
-use Rattle.rules.specs.Book.{Book, bad_masks}
+-- permits b x       whether the book b permits the searcher x, which may have a mask count
+use Rattle.std.specs.Prelude.{ℕ, Bool, true, Some, None, Option, ◌==◌, if◌then◌else◌}
+use Rattle.rules.specs.Book.{Book}
+use Rattle.rules.specs.Book as book
 use Rattle.host.specs.declared.searcher.SearcherKind.{SearcherKind}
 use Rattle.host.specs.declared.searcher.SearcherKind.TheVariants.{Plain, RollingHash, Masks}
 
 abbrev pub searcher_of : ℕ → ℕ → Option SearcherKind
-searcher_of s c = cond (s == 0) (Some Plain) (cond (s == 1) (Some RollingHash) (cond (s == 2) (Some (Masks c)) None))
+searcher_of s c =
+    if s == 0 then Some Plain
+    else if s == 1 then Some RollingHash
+    else if s == 2 then Some (Masks c)
+    else None
 
-abbrev pub misfits : SearcherKind → Book → Bool
-misfits Plain b = false
-misfits RollingHash b = false
-misfits (Masks c) b = bad_masks b c
+abbrev pub permits : Book → SearcherKind → Bool
+permits b Plain = true
+permits b RollingHash = true
+permits b (Masks c) = book.permits b c

@@ -6,10 +6,22 @@ ghost use Rattle.host.specs.Misses.{number_of};
 use rules::{Fault, Refusal};
 use std::alloc::AllocError;
 
+/// What is answered where the text has no hit.
+pub const NO_HIT: u32 = 100;
+
+/// What is answered for another searcher number, or a buffer of another length than `ANSWER_BYTES`.
+pub const MISCALLED: u32 = 101;
+
+/// What is answered where the job has no text.
+pub const NO_TEXT: u32 = 102;
+
+/// What is answered for want of memory.
+pub const NO_MEMORY: u32 = 103;
+
 /// Why a call writes no hit.
-#[derive(Clone, Copy)]
+#[derive(Clone, Copy, Debug, PartialEq, Eq)]
 pub(crate) enum Miss {
-    /// There is no searcher with that number, or the buffer has another length than twelve.
+    /// There is no searcher with that number, or the buffer has another length.
     Miscalled,
     /// The job was refused, or there is no memory.
     Refused(Refusal),
@@ -26,11 +38,11 @@ impl Miss {
         ensures positive { 0 < result }
     {
         match self {
-            Miss::Miscalled => 101,
-            Miss::Refused(Refusal::Memory) => 103,
+            Miss::Miscalled => MISCALLED,
+            Miss::Refused(Refusal::Memory) => NO_MEMORY,
             Miss::Refused(refusal) => u32::from(refusal.number()),
-            Miss::NoText => 102,
-            Miss::NoHit => 100,
+            Miss::NoText => NO_TEXT,
+            Miss::NoHit => NO_HIT,
         }
     }
 }

@@ -1,10 +1,9 @@
-ghost use Rattle.std.specs.Prelude.{◌≡◌, Some, None, Ok, Err, IfOk, MatchOption, MatchResult};
+ghost use Rattle.std.specs.Prelude.{◌≡◌, Some, None, Ok, Err, IfOk, IfErr, MatchOption};
 ghost use Rattle.job.specs.Format.{step};
-ghost use Rattle.pattern.specs.Closed.{book_of};
-ghost use Rattle.host.specs.Outcomes.{text_in, text_for, outcome, TurnedDown, Small};
+ghost use Rattle.host.specs.Outcomes.{text_in, text_for, outcome, FailsWith, Small};
 
 use crate::miss::Miss;
-use crate::searcher::SearcherKind;
+use crate::searcher::{SearcherKind, permits};
 use job::{Reader, Record, open};
 use pattern::Book;
 use rules::{Match, Refusal};
@@ -23,9 +22,10 @@ fn first_text<'a>(mut texts: Reader<'a>) -> Option<&'a [u8]>
 
 /// The text to search, once the job's book is closed: up to the search itself no memory is wanted any more.
 fn text_for<'a>(book: &Book, texts: Reader<'a>, searcher: SearcherKind) -> Result<&'a [u8], Miss>
-    ensures { let d = text_for (book_of book.now) searcher (text_in (step texts.entry.job.now texts.entry.at)) in MatchResult result (λ t. d ≡ Ok t.now) (λ e. d ≡ Err e) }
+    ensures ok { IfOk result (λ t. text_for book.now searcher (text_in (step texts.entry.job.now texts.entry.at)) ≡ Ok t.now) }
+    ensures err { IfErr result (λ e. text_for book.now searcher (text_in (step texts.entry.job.now texts.entry.at)) ≡ Err e) }
 {
-    if searcher.misfits(book) {
+    if !permits(book, searcher) {
         return Err(Miss::Refused(Refusal::BadMaskCount));
     }
     first_text(texts).ok_or(Miss::NoText)
@@ -33,17 +33,18 @@ fn text_for<'a>(book: &Book, texts: Reader<'a>, searcher: SearcherKind) -> Resul
 
 /// Searches a job's first text from a place on; what comes after it is not looked at.
 pub(crate) fn search(
-    heap: Global,
+    alloc: Global,
     job: &[u8],
     place: usize,
     searcher: SearcherKind,
 ) -> Result<Match, Miss>
-    ensures outcome { MatchResult result (λ m. outcome job.now place searcher ≡ Ok m) (TurnedDown job.now (outcome job.now place searcher)) }
+    ensures ok { IfOk result (λ m. outcome job.now place searcher ≡ Ok m) }
     ensures small { IfOk result Small }
+    ensures err { IfErr result (FailsWith job.now (outcome job.now place searcher)) }
 {
-    let opened = open(heap, job)?;
+    let opened = open(alloc, job)?;
     let text = text_for(&opened.book, opened.texts, searcher)?;
     searcher
-        .find(heap, opened.book, text, place)?
+        .find(alloc, opened.book, text, place)?
         .ok_or(Miss::NoHit)
 }

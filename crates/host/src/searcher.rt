@@ -1,7 +1,6 @@
 ghost use Rattle.std.specs.Prelude.{◌≡◌, IfOk};
 ghost use Rattle.rules.specs.Search.{found};
-ghost use Rattle.pattern.specs.Closed.{book_of};
-ghost use Rattle.host.specs.Searchers.{searcher_of, misfits};
+ghost use Rattle.host.specs.Searchers.{searcher_of, permits};
 
 use finder::{Finder, Plain};
 use pattern::Book;
@@ -13,7 +12,7 @@ use teddy::Slim;
 use vector::{ArrayHalf, Single};
 
 /// A kind of searcher; one with masks has their count. The C interface has numbers for these three.
-#[derive(Clone, Copy)]
+#[derive(Clone, Copy, Debug, PartialEq, Eq)]
 pub(crate) enum SearcherKind {
     Plain,
     RollingHash,
@@ -33,27 +32,17 @@ impl SearcherKind {
         }
     }
 
-    /// Whether it has a mask count that a book does not permit.
-    pub(crate) fn misfits(self, book: &Book) -> bool
-        ensures { result ≡ misfits self (book_of book.now) }
-    {
-        match self {
-            SearcherKind::Masks(count) => book.misfits(count),
-            _ => false,
-        }
-    }
-
     /// The first hit in a text from a place on.
     pub(crate) fn find(
         self,
-        heap: Global,
+        alloc: Global,
         book: Book,
         text: &[u8],
         at: usize,
     ) -> Result<Option<Match>, AllocError>
-        ensures { IfOk result (λ o. o ≡ found (book_of book) text.now at) }
+        ensures { IfOk result (λ o. o ≡ found book text.now at) }
     {
-        let shared = Rc::new(heap, book)?;
+        let shared = Rc::new(alloc, book)?;
         // Three types of searchers, so a match: the C interface has these three.
         Ok(match self {
             SearcherKind::Plain => Plain::new(shared).find(text, at),
@@ -62,5 +51,15 @@ impl SearcherKind {
                 text, at,
             ),
         })
+    }
+}
+
+/// Whether a book permits a searcher, which may have a mask count.
+pub(crate) fn permits(book: &Book, searcher: SearcherKind) -> bool
+    ensures { result ≡ permits book.now searcher }
+{
+    match searcher {
+        SearcherKind::Masks(count) => book.permits(count),
+        _ => true,
     }
 }
