@@ -6,6 +6,8 @@
 
 #![tactic(auto)]
 
+use anyhow::ensure;
+use job::{jobs_open, jobs_read_back};
 use std::env;
 use std::rt::Env;
 
@@ -24,6 +26,8 @@ fn job_count(rt: &(impl Env + AllocGlobal)) -> anyhow::Result<usize> {
 }
 
 fn main(rt: HostRuntime) -> anyhow::Result<()> {
+    // Proved for every job, so this says only that they can be called.
+    ensure!(jobs_open() && jobs_read_back());
     let count = job_count(&rt)?;
     stored::run_all(&rt)?;
     drawn::run_all(&rt, count)

@@ -1,15 +1,20 @@
 //! The searchers beside one another: the rolling hash beside the plain searcher, on small cases and on many drawn books and
-//! texts; then the masks over every kind of vectors, with every mask count, beside both. The argument, if there is one, names
-//! the part that is run alone.
+//! texts; then the masks over every kind of vectors, with every mask count, beside both; then the example of docs/TEDDY.md, and
+//! the laws. The argument, if there is one, names the part that is run alone.
 
 #![tactic(auto)]
 
 mod book;
+mod example;
 mod masks;
 mod random;
 mod rolling;
 
+use anyhow::ensure;
+use rabinkarp::hash_rolls;
+use rules::rules_hold;
 use std::env;
+use teddy::{lines_hold, tables_hold};
 
 fn main(rt: HostRuntime) -> anyhow::Result<()> {
     let only = env::args(&rt)?.nth(1);
@@ -20,5 +25,11 @@ fn main(rt: HostRuntime) -> anyhow::Result<()> {
     if is_wanted("masks") {
         masks::run(&rt)?;
     }
+    if is_wanted("example") {
+        example::run(&rt)?;
+    }
+    // Proved for every book and text, so this says only that they can be called.
+    ensure!(rules_hold() && tables_hold() && lines_hold());
+    ensure!(hash_rolls(b"2 DC-40-R", 2, 4));
     Ok(())
 }
