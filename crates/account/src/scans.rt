@@ -1,7 +1,12 @@
-ghost use Rattle.std.specs.Prelude.{◌≡◌, ◌+◌, ◌≤◌, ◌++◌, [], map, length, vec_len, vec_capacity};
-ghost use Rattle.intake.specs.Intakes.{model};
-ghost use Rattle.account.specs.Accounts.{line, Noted, TextsServed, modelled};
-ghost use Rattle.job.specs.Records.{reading};
+ghost use Rattle.std.specs.Prelude.{◌≡◌, ◌+◌, ◌≤◌, ◌++◌, true, [], map, length, is_ok, vec_len, vec_capacity, OnOk, IfErr, OnErr};
+ghost use Rattle.rules.specs.declared.fault.Refusal.TheVariants.{Memory};
+ghost use Rattle.rules.specs.Listing.{listing};
+ghost use Rattle.rules.specs.Faults.{refused, placed};
+ghost use Rattle.rules.specs.History.{Counted};
+ghost use Rattle.job.specs.Reading.{reading};
+ghost use Rattle.job.specs.Memory.{Refuses};
+ghost use Rattle.account.specs.Texts.{line, scanned};
+ghost use Rattle.account.specs.Accounts.{TextsServed};
 
 use crate::account::Line;
 use finder::Finder;
@@ -37,7 +42,13 @@ pub(crate) fn scan_text<F: Finder>(
     place: usize,
     text: &[u8],
 ) -> Result<(), Fault>
-    ensures { Noted (model F.book intake.old) lines.old.items place text.now result lines.new.items (model F.book intake.new) }
+    ensures accepted { OnOk result (is_ok (scanned intake.old.book intake.old.accepted text.now) ≡ true) }
+    ensures counted { OnOk result (Counted intake.old text.now intake.new) }
+    ensures noted { OnOk result (lines.new.items ≡ lines.old.items ++ map (line intake.old.accepted) (listing intake.old.book text.now)) }
+
+    ensures err { IfErr result (Refuses (placed place (scanned intake.old.book intake.old.accepted text.now)) (λ f. f ≡ refused 0 Memory)) }
+    ensures same_intake { OnErr result (intake.new ≡ intake.old) }
+    ensures same_lines { OnErr result (lines.new.items ≡ lines.old.items) }
 {
     lines.try_reserve(MAX_HITS)?;
     let number = intake.count();
@@ -53,7 +64,7 @@ pub(crate) fn scan_texts<F: Finder + Drop>(
     lines: &mut Vec<Line>,
 ) -> Result<Intake<F>, Fault>
     requires { lines.old.items ≡ [] }
-    ensures { TextsServed (F.book finder) (reading texts.entry.job.now texts.entry.at) lines.new.items (modelled (model F.book) result) }
+    ensures { TextsServed (F.book finder) (reading texts.entry.job.now texts.entry.at) lines.new.items result }
 {
     let mut intake = Intake::new(finder);
     let mut hits = [BLANK; MAX_HITS];
