@@ -14,7 +14,7 @@ use Rattle.teddy.specs.Members.{repeated, members, admitted}
 use Rattle.teddy.specs.declared.mask.Mask.{Mask}
 use Rattle.teddy.specs.declared.candidate.Masks.{Masks}
 use Rattle.teddy.specs.declared.candidate.Seen.{Seen}
-use Rattle.teddy.specs.Candidates.{met, candidates, kept}
+use Rattle.teddy.specs.Candidates.{met, candidates, kept, seen_after}
 use Rattle.teddy.specs.Windows.{Run, Shows, Recalls, Recalled, MaskOf, IsRun, IsBlank, Exact}
 use Rattle.teddy.proofs.Standing.{and_set, masks_stand}
 
@@ -125,9 +125,8 @@ sees r at j means v wide fit of i k lt small =
 -- ---- a window
 module _ {A : Type 0} (n : ℕ) (means : A → List ℕ) (m : Masks (Mask A)) (t : List ℕ) (at : ℕ) (seen : Seen A) (x : A) (seen' : Seen A) (wide : (n ≡ 16) ⊎ (n ≡ 32)) (fit : (i : ℕ) → lane t i < 256)
     (found : means x ≡ candidates n means m seen (loaded n t at))
-    (first : means seen'.first ≡ kept m.count 1 (means seen.first) (admitted n means m.first (loaded n t at)))
-    (second : means seen'.second ≡ kept m.count 2 (means seen.second) (admitted n means m.second (loaded n t at)))
-    (third : means seen'.third ≡ kept m.count 3 (means seen.third) (admitted n means m.third (loaded n t at))) where
+    (first : means seen'.first ≡ (seen_after n means m seen (loaded n t at)).first) (second : means seen'.second ≡ (seen_after n means m seen (loaded n t at)).second)
+    (third : means seen'.third ≡ (seen_after n means m seen (loaded n t at)).third) where
   module _ (r : Run) (is : IsRun n means m t r) (old : Recalled means r at seen) where
     seen_of : (v : Mask A) (j : ℕ) → MaskOf n means v r.groups j → Sees r at j (admitted n means v (loaded n t at))
     seen_of v j of =

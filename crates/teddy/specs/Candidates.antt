@@ -7,6 +7,7 @@
 -- candidates n means m seen xs   the candidates of the window xs
 -- kept count k old new        what the k-th mask leaves for the next window: what it admits here, unless it is the last one in use or lies
 --                             behind it: then it leaves old
+-- seen_after n means m seen xs   what the first three masks leave so
 -- Tests n means m seen xs r seen'   the window xs was tested: r has its candidates, and seen' what each mask leaves for the next window
 use Rattle.std.specs.Prelude.{◌≡◌, ℕ, zero, suc, cond, List, ◌==◌}
 use Rattle.vector.specs.Lanes.{shifted_in, anded}
@@ -36,8 +37,15 @@ abbrev pub kept : ℕ → ℕ → List ℕ → List ℕ → List ℕ
 kept count zero old new = new
 kept count (suc k) old new = cond (count == suc k) old (kept count k old new)
 
+abbrev pub seen_after : {A : Type 0} → ℕ → (A → List ℕ) → Masks (Mask A) → Seen A → List ℕ → Seen (List ℕ)
+seen_after n means m seen xs = record {
+  first = kept m.count 1 (means seen.first) (admitted n means m.first xs);
+  second = kept m.count 2 (means seen.second) (admitted n means m.second xs);
+  third = kept m.count 3 (means seen.third) (admitted n means m.third xs);
+}
+
 pub record Tests {A : Type 0} (n : ℕ) (means : A → List ℕ) (m : Masks (Mask A)) (seen : Seen A) (xs : List ℕ) (r : A) (seen' : Seen A) : Type 0 where
   pub found : means r ≡ candidates n means m seen xs
-  pub first : means seen'.first ≡ kept m.count 1 (means seen.first) (admitted n means m.first xs)
-  pub second : means seen'.second ≡ kept m.count 2 (means seen.second) (admitted n means m.second xs)
-  pub third : means seen'.third ≡ kept m.count 3 (means seen.third) (admitted n means m.third xs)
+  pub first : means seen'.first ≡ (seen_after n means m seen xs).first
+  pub second : means seen'.second ≡ (seen_after n means m seen xs).second
+  pub third : means seen'.third ≡ (seen_after n means m seen xs).third

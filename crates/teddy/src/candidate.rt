@@ -19,7 +19,6 @@
 
 ghost use Rattle.std.specs.Prelude.{◌≡◌};
 ghost use Rattle.vector.specs.Lanes.{splatted, loaded};
-ghost use Rattle.teddy.specs.Members.{admitted};
 
 use crate::mask::Mask;
 use vector::Vector;
@@ -64,7 +63,7 @@ impl<V: Vector> Seen<V> {
 }
 
 impl<V: Vector> Masks<Mask<V>> {
-    ghost use Rattle.teddy.specs.Candidates.{candidates, kept, Tests};
+    ghost use Rattle.teddy.specs.Candidates.{candidates, seen_after, Tests};
     ghost use Rattle.teddy.specs.Windows.{Exact};
 
     /// The buckets for which each place of a window is a candidate: lane i speaks of the place `count` - 1 before its byte.
@@ -73,9 +72,9 @@ impl<V: Vector> Masks<Mask<V>> {
     #[tactic(auto, unfolding(crate::specs::Candidates::met))]
     pub fn candidate(&self, chunk: V, seen: &mut Seen<V>) -> V
         ensures found { V.lanes result ≡ candidates V.count V.lanes self.now seen.old (V.lanes chunk) }
-        ensures first { V.lanes seen.new.first ≡ kept self.now.count 1 (V.lanes seen.old.first) (admitted V.count V.lanes self.now.first (V.lanes chunk)) }
-        ensures second { V.lanes seen.new.second ≡ kept self.now.count 2 (V.lanes seen.old.second) (admitted V.count V.lanes self.now.second (V.lanes chunk)) }
-        ensures third { V.lanes seen.new.third ≡ kept self.now.count 3 (V.lanes seen.old.third) (admitted V.count V.lanes self.now.third (V.lanes chunk)) }
+        ensures first { V.lanes seen.new.first ≡ (seen_after V.count V.lanes self.now seen.old (V.lanes chunk)).first }
+        ensures second { V.lanes seen.new.second ≡ (seen_after V.count V.lanes self.now seen.old (V.lanes chunk)).second }
+        ensures third { V.lanes seen.new.third ≡ (seen_after V.count V.lanes self.now seen.old (V.lanes chunk)).third }
     {
         match self.count {
             1 => Mask::members1(chunk, self.first),

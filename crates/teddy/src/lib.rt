@@ -8,12 +8,23 @@
 //! the candidates by rising place, a bit at a time (`take_lowest`). What is too short for a window goes to the rolling hash.
 //!
 //! ```
-//! let mut patterns = Patterns::new(alloc);
-//! patterns.add(b"DC-40")?;
-//! patterns.add(b"RM-100")?;
-//! let book = Rc::new(alloc, patterns.close())?;
-//! let searcher = Slim::<Single<ArrayHalf>>::new(book, 4);
-//! let hit = searcher.find(b"an RM-100 and a DC-40", 0); // id 1, from 3 to 9
+//! use finder::Finder;
+//! use pattern::Patterns;
+//! use rules::Fault;
+//! use std::alloc::Global;
+//! use std::rc::Rc;
+//! use teddy::Slim;
+//! use vector::{ArrayHalf, Single};
+//!
+//! /// Where the first of two part numbers stands in a text.
+//! fn first_start(alloc: Global, text: &[u8]) -> Result<Option<usize>, Fault> {
+//!     let mut patterns = Patterns::new(alloc);
+//!     patterns.add(b"DC-40")?;
+//!     patterns.add(b"RM-100")?;
+//!     let book = Rc::new(alloc, patterns.close())?;
+//!     let searcher = Slim::<Single<ArrayHalf>>::new(book, 4);
+//!     Ok(searcher.find(text, 0).map(|hit| hit.start))
+//! }
 //! ```
 
 #![tactic(auto)]

@@ -1,6 +1,5 @@
-use Rattle.std.proofs.Common.{ℕ, ◌+◌, ◌-◌, ◌*◌, ◌%◌, ◌<◌, ◌≤◌, get_or}
+use Rattle.std.proofs.Common.{ℕ, ◌+◌, ◌-◌, ◌*◌, ◌≤◌}
 use Rattle.rules.specs.Limits.{mask_buckets}
-use Rattle.rules.specs.Search.{OccursAt}
 use Rattle.teddy.specs.Windows.{Recalled}
 use Rattle.teddy.proofs.Hits.{run, Clear, InLane, InVain}
 use Rattle.teddy.proofs.slim.Slim.find_in_windows.Given as goal
