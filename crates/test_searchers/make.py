@@ -5,8 +5,9 @@ import re
 
 ALL = b'ABCDEFGHIJKLMNOPQRSTUVWXYZ'
 SHAPES = [
-    (0, 1, 1, b'AB'), (3, 1, 3, b'AB'), (12, 2, 7, b'ABC'), (200, 3, 6, ALL), (1024, 4, 11, b'ABCD'),
-    (8, 63, 66, b'AB'), (8, 64, 67, b'AB'), (8, 65, 68, b'AB'), (8, 300, 319, ALL),
+    (0, [1], b'AB'), (3, [1, 2, 3], b'AB'), (12, [2, 3, 4, 5, 6, 7], b'ABC'), (200, [3, 4, 5, 6], ALL),
+    (1024, [4, 5, 6, 7, 8, 9, 10, 11], b'ABCD'), (8, [63, 64, 65, 66], b'AB'), (8, [64, 65, 66, 67], b'AB'),
+    (8, [65, 66, 67, 68], b'AB'), (8, [300, 303, 310, 319], ALL),
 ]
 state = 88172645463325252
 
@@ -33,12 +34,12 @@ def text_of(patterns, letters):
     return text
 
 
-def hits_of(count, shortest, longest, letters):
+def hits_of(count, lens, letters):
     """At how many places of some texts a search finds a hit: at those up to the last one at which a pattern begins."""
     hits = 0
     for _ in range(5):
         for first_entered in (True, False):
-            patterns = [word(letters, shortest + below(longest - shortest + 1)) for _ in range(count)]
+            patterns = [word(letters, lens[below(len(lens))]) for _ in range(count)]
             if not first_entered:
                 patterns.sort(key=len, reverse=True)  # equal lengths stay as they were entered
             text = text_of(patterns, letters)
@@ -46,7 +47,7 @@ def hits_of(count, shortest, longest, letters):
     return hits
 
 
-lines = iter([f'{count} patterns from {shortest} bytes on: {hits_of(count, shortest, *rest)} hits, the same'
-              for count, shortest, *rest in SHAPES])
+lines = iter([f'{count} patterns from {lens[0]} bytes on: {hits_of(count, lens, letters)} hits, the same'
+              for count, lens, letters in SHAPES])
 printed = open('stdout').read()
 open('stdout', 'w').write(re.sub(r'(?m)^\d+ patterns from .*', lambda _: next(lines), printed))

@@ -5,9 +5,9 @@
 #![tactic(auto)]
 
 mod book;
+mod draw;
 mod example;
 mod masks;
-mod random;
 mod rolling;
 
 use anyhow::ensure;

@@ -2,8 +2,8 @@
 
 ghost use Rattle.std.specs.Prelude.{◌≤◌, IfOk};
 
-use crate::book::{Shape, closed, drawn};
-use crate::random::Random;
+use crate::book::closed;
+use crate::draw::{self, Shape};
 use finder::{Finder, Plain};
 use pattern::Book;
 use rabinkarp::RabinKarp;
@@ -13,6 +13,7 @@ use std::alloc::Global;
 use std::rc::Rc;
 use std::{array, io, iter};
 use teddy::Slim;
+use test_random::Xorshift;
 use vector::{ArrayHalf, Double, Single, Vector, WordHalf};
 
 /// What the mask searcher over one kind of vectors answers with each mask count from 1 to 4; those above the shortest length
@@ -186,29 +187,28 @@ fn starts(alloc: Global, after: usize) -> Result<usize, Fault> {
 const LETTERS: &[u8; 3] = b"AQb";
 
 /// Whether all searchers agree on one drawn book, text and place.
-fn drawn_agree(alloc: Global, random: &mut Random) -> Result<bool, Fault> {
+fn drawn_agree(alloc: Global, random: &mut Xorshift) -> Result<bool, Fault> {
     let shape = Shape {
-        count: random.between(1, 12),
-        shortest: 1,
-        longest: 7,
+        count: (1 + random.next() % 12) as usize,
+        lens: &[1, 2, 3, 4, 5, 6, 7],
         letters: LETTERS,
     };
-    let kind = if random.below(2) == 0 {
+    let kind = if random.next() % 2 == 0 {
         LeftmostLongest
     } else {
         LeftmostFirst
     };
-    let book = drawn(alloc, random, &shape, kind)?;
-    let len = random.below(90);
-    let text = random.word(alloc, LETTERS, len)?;
-    let at = random.below(40);
+    let book = draw::book(alloc, random, &shape, kind)?;
+    let len = (random.next() % 90) as usize;
+    let text = draw::word(alloc, random, LETTERS, len)?;
+    let at = (random.next() % 40) as usize;
     let want = Plain::new(book.clone()?).find(&text, at);
     Ok(agree(&book, &text, at, want)? == 17)
 }
 
 /// On how many of 300 drawn books, texts and places all searchers agree.
 fn draws(alloc: Global) -> Result<usize, Fault> {
-    let mut random = Random::new();
+    let mut random = Xorshift::FIRST;
     let agree: Vec<bool> = (0..300)
         .map(|_| drawn_agree(alloc, &mut random))
         .try_collect(alloc)?;

@@ -1,26 +1,77 @@
 //! The rolling hash beside the plain searcher.
 
-use crate::book::{Shape, closed, drawn};
-use crate::random::Random;
+use crate::book::closed;
+use crate::draw::{self, Shape, pick, word};
 use anyhow::ensure;
 use finder::{Finder, Plain};
 use pattern::Book;
 use rabinkarp::{RabinKarp, hash, hash_2pow, update_hash};
 use rules::MatchKind;
 use std::alloc::Global;
+use test_random::Xorshift;
+
+const ALL: &[u8] = b"ABCDEFGHIJKLMNOPQRSTUVWXYZ";
+
+const SHAPES: [Shape; 9] = [
+    Shape {
+        count: 0,
+        lens: &[1],
+        letters: b"AB",
+    },
+    Shape {
+        count: 3,
+        lens: &[1, 2, 3],
+        letters: b"AB",
+    },
+    Shape {
+        count: 12,
+        lens: &[2, 3, 4, 5, 6, 7],
+        letters: b"ABC",
+    },
+    Shape {
+        count: 200,
+        lens: &[3, 4, 5, 6],
+        letters: ALL,
+    },
+    Shape {
+        count: 1024,
+        lens: &[4, 5, 6, 7, 8, 9, 10, 11],
+        letters: b"ABCD",
+    },
+    Shape {
+        count: 8,
+        lens: &[63, 64, 65, 66],
+        letters: b"AB",
+    },
+    Shape {
+        count: 8,
+        lens: &[64, 65, 66, 67],
+        letters: b"AB",
+    },
+    Shape {
+        count: 8,
+        lens: &[65, 66, 67, 68],
+        letters: b"AB",
+    },
+    Shape {
+        count: 8,
+        lens: &[300, 303, 310, 319],
+        letters: ALL,
+    },
+];
 
 /// Letters, with patterns of the book among them.
 fn drawn_text(
     alloc: Global,
-    random: &mut Random,
+    random: &mut Xorshift,
     book: &Book,
     letters: &[u8],
 ) -> anyhow::Result<Vec<u8>> {
     let mut text = Vec::new(alloc);
     for _ in 0..60 {
-        let len = random.below(6);
-        text.extend_from_slice(&random.word(alloc, letters, len)?)?;
-        if let Some(id) = book.order().get(random.below(book.len())) {
+        let len = (random.next() % 6) as usize;
+        text.extend_from_slice(&word(alloc, random, letters, len)?)?;
+        if let Some(id) = pick(random, book.order()) {
             text.extend_from_slice(book.get(*id))?;
         }
     }
@@ -48,11 +99,11 @@ fn hits(plain: &Plain, rolling: &RabinKarp, text: &[u8]) -> anyhow::Result<usize
 }
 
 /// At how many places both find a hit, over some books of a shape, of each kind, and a text for each.
-fn hits_of(alloc: Global, random: &mut Random, shape: &Shape) -> anyhow::Result<usize> {
+fn hits_of(alloc: Global, random: &mut Xorshift, shape: &Shape) -> anyhow::Result<usize> {
     let mut all = 0usize;
     for _ in 0..5 {
         for kind in [MatchKind::LeftmostFirst, MatchKind::LeftmostLongest] {
-            let book = drawn(alloc, random, shape, kind)?;
+            let book = draw::book(alloc, random, shape, kind)?;
             let text = drawn_text(alloc, random, &book, shape.letters)?;
             let plain = Plain::new(book.clone()?);
             let rolling = RabinKarp::new(book);
@@ -82,27 +133,11 @@ fn show_hashes(rt: &(impl Print + AllocGlobal)) -> anyhow::Result<()> {
 
 pub(crate) fn run(rt: &(impl Print + AllocGlobal)) -> anyhow::Result<()> {
     show_hashes(rt)?;
-    let mut random = Random::new();
-    let all = b"ABCDEFGHIJKLMNOPQRSTUVWXYZ";
-    let shapes: [(usize, usize, usize, &'static [u8]); 9] = [
-        (0, 1, 1, b"AB"),
-        (3, 1, 3, b"AB"),
-        (12, 2, 7, b"ABC"),
-        (200, 3, 6, all),
-        (1024, 4, 11, b"ABCD"),
-        (8, 63, 66, b"AB"),
-        (8, 64, 67, b"AB"),
-        (8, 65, 68, b"AB"),
-        (8, 300, 319, all),
-    ];
-    for (count, shortest, longest, letters) in shapes {
-        let shape = Shape {
-            count,
-            shortest,
-            longest,
-            letters,
-        };
-        let hits = hits_of(rt.alloc(), &mut random, &shape)?;
+    let mut random = Xorshift::FIRST;
+    for shape in &SHAPES {
+        let count = shape.count;
+        let shortest = shape.lens.iter().min().copied().unwrap_or(0);
+        let hits = hits_of(rt.alloc(), &mut random, shape)?;
         println!(rt; "{count} patterns from {shortest} bytes on: {hits} hits, the same")?;
     }
     Ok(())
