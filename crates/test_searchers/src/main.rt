@@ -1,6 +1,6 @@
 //! The searchers beside one another: the rolling hash beside the plain searcher, on small cases and on many drawn books and
 //! texts; then the masks over every kind of vectors, with every mask count, beside both; then the example of docs/TEDDY.md, and
-//! the laws. The argument, if there is one, names the part that is run alone.
+//! the laws. The arguments, if there are any, name the parts that are run.
 
 #![tactic(auto)]
 
@@ -17,8 +17,8 @@ use std::env;
 use teddy::{lines_hold, tables_hold};
 
 fn main(rt: HostRuntime) -> anyhow::Result<()> {
-    let only = env::args(&rt)?.nth(1);
-    let is_wanted = |part: &str| only.as_ref().is_none_or(|name| name.as_str() == part);
+    let names: Vec<String> = env::args(&rt)?.skip(1).collect(rt.alloc())?;
+    let is_wanted = |part: &str| names.is_empty() || names.iter().any(|name| name.as_str() == part);
     if is_wanted("rolling") {
         rolling::run(&rt)?;
     }
