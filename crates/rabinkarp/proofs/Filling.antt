@@ -2,7 +2,6 @@
 -- below key order n      the ids of the buckets below n
 -- filled keys order b i  the ids while the bucket b is filled, once the first i of the order were looked at
 use Rattle.std.proofs.Common.{◌≡◌, ℕ, zero, suc, ◌+◌, ◌%◌, ◌<◌, ◌≤◌, Bool, cond, eqb, ltb, List, [], ◌∷◌, ◌++◌, length, get_or, take, count_by, sym, refl, ap, ◌∙◌, append_assoc, add-one, arith, length-append}
-use Rattle.std.proofs.lemmas.Grind.{common_steps}
 use Rattle.std.proofs.lemmas.List.Sums.{sum_by-cons, sum_by-take-le, length-filter, count_by-le-length, count_by_more_yes}
 use Rattle.std.proofs.lemmas.Bool.Decides.{nat_tests}
 use Rattle.std.proofs.lemmas.List.Elements.{filter_more}
@@ -83,5 +82,3 @@ module _ (keys order : List ℕ) where
   pub filled_room : (b i : ℕ) → i < length order → get_or keys (get_or order i 0) 0 % hash_buckets ≡ b → length (filled keys order b i) < length order
   unfolding filled
   filled_room b i l e = omega (arith, length-append (below (key_of keys) order b) (in_bucket (key_of keys) (take i order) b), room (key_of keys) order b i l e)
-
-pub ruleset filling = (filled_first, filled_with, filled_without, filled_next, filled_room, common_steps)

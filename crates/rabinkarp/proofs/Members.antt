@@ -1,12 +1,14 @@
 -- What a bucket of a book has: ids of the book, each whose key it is, a preferred one before the others.
-use Rattle.std.proofs.Common.{◌≡◌, ℕ, zero, suc, ◌<◌, Bool, true, cond, eqb, List, [], ◌∷◌, length, get_or, filter, sym, refl, ap, ◌∙◌, subst, inl, inr, arith}
+use Rattle.std.proofs.Common.{◌≡◌, ℕ, zero, suc, ◌%◌, ◌<◌, Bool, true, cond, eqb, List, [], ◌∷◌, length, get_or, filter, sym, refl, ap, ◌∙◌, subst, inl, inr, arith}
 use Rattle.std.specs.List.{AllByRecursion}
 use Rattle.std.proofs.ByRecursion.{All-get_or, All-from_get_or, all_kept_by}
 use Rattle.std.proofs.lemmas.Bool.{cases_Bool, eq-eqb, cond-true, cond-false}
+use Rattle.rules.specs.Limits.{hash_buckets}
 use Rattle.rules.specs.Book.{Book, count_of, Preferred}
 use Rattle.pattern.specs.Order.{order_in}
 use Rattle.pattern.proofs.Trying.{reading_order}
 use Rattle.rabinkarp.specs.Buckets.{in_bucket}
+use Rattle.rabinkarp.specs.Prefixes.{prefix_hash, hash_bucket, bucket_in}
 
 -- what a filter keeps is in the order of the whole
 Pairs : (ℕ → ℕ → Type 0) → List ℕ → Type 0
@@ -72,3 +74,8 @@ module _ (b : Book) (key : ℕ → ℕ) (k : ℕ) where
 
   pub bucket_same : (other : ℕ → ℕ) → ((id : ℕ) → id < count_of b → key id ≡ other id) → in_bucket key (order_in b) k ≡ in_bucket other (order_in b) k
   bucket_same other h = same_kept key other k (order_in b) (λ i l. h (get_or (order_in b) i 0) ((reading_order b).known i l))
+
+-- the buckets by the hashes
+pub placed_by : (b : Book) (hs : List ℕ) (k : ℕ) → ((i : ℕ) → i < count_of b → get_or hs i 0 ≡ prefix_hash b i) → in_bucket (λ i. get_or hs i 0 % hash_buckets) (order_in b) k ≡ bucket_in b k
+unfolding bucket_in
+placed_by b hs k hashed = bucket_same b (λ i. get_or hs i 0 % hash_buckets) k (hash_bucket b) (λ i known. ap (λ n. n % hash_buckets) (hashed i known))

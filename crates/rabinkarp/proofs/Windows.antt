@@ -1,7 +1,8 @@
 -- Laws of the rolling hash.
 use Rattle.std.proofs.Common.{◌≡◌, ℕ, suc, ◌+◌, ◌-◌, ◌*◌, ◌%◌, ◌^◌, ◌<◌, List, [], ◌∷◌, ◌++◌, length, get_or, take, drop, sym, ap, ◌∙◌, mul_assoc, mul_comm, pow-suc, add-mul, arith}
 use Rattle.std.specs.List.{fold}
-use Rattle.std.proofs.lemmas.Nat.{mul-mod_second}
+use native.Mathlib.Nat.{mul-mod_left}
+use Rattle.std.proofs.lemmas.Nat.{mul-mod_second, pow-add}
 use Rattle.std.proofs.lemmas.List.{drop_more, take_more, get_or-drop, length-drop, length-take-le}
 use Rattle.std.proofs.lemmas.List.Sums.{fold_push}
 use Rattle.rabinkarp.specs.Hash.{weighed, hash_of, leading, moved, window, Rolling}
@@ -70,3 +71,9 @@ rolls_slices t s m some within =
     let here : s + m - s ≡ m = omega arith in
     let there : s + 1 + m - (s + 1) ≡ m = omega arith in
     ap (λ n. moved (hash_of (take n (drop s t))) (leading m) (get_or t s 0) (get_or t (s + m) 0)) here ∙ rolling t m s some within ∙ ap (λ n. hash_of (take n (drop (s + 1) t))) (sym there)
+
+-- from 65 bytes on the first one counts for nothing
+pub leading_far : (m : ℕ) → 64 < m → 2 ^ (m - 1) % 2 ^ 64 ≡ 0
+leading_far m l =
+    let e : m - 1 ≡ m - 65 + 64 = omega arith in
+    rw (e, pow-add 2 (m - 65) 64, mul-mod_left (2 ^ (m - 65)) (2 ^ 64))

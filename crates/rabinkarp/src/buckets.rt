@@ -29,7 +29,7 @@ impl Buckets {
 
     /// Puts each id of a book into the bucket that its key is modulo `NUM_BUCKETS`; `keys` has the key of each id, in a table of
     /// fixed size, so that making it cannot refuse. Within a bucket the ids are in the order of the book's kind.
-    #[tactic(auto, using(crate::proofs::Filling::filling))]
+    #[tactic(auto, using(crate::proofs::Slices::bucketing))]
     pub fn new(book: &Book, keys: &[usize; MAX_PATTERNS]) -> Buckets
         ensures { Holds result (λ id. slice_index keys.now id % hash_buckets) (order_in book.now) }
     {

@@ -20,6 +20,7 @@ pub fn hash(bytes: &[u8]) -> usize
 
 /// By how much the first of `len` bytes counts in their hash. There is no loop, since `len` may be 2^64 - 1, the shortest
 /// length of a book without patterns.
+#[tactic(auto, using(crate::proofs::Windows::leading_far))]
 pub fn hash_2pow(len: usize) -> usize
     ensures { result ≡ leading len }
 {
