@@ -6,8 +6,7 @@
 -- code d                  the number that the answer d has: 0 for a hit
 -- buffer_after d old      the bytes of the buffer then: those of the hit, else the old ones
 -- SmallAnswer d           the numbers of a hit are small, so that four bytes hold each
--- Replies j p x r old new the number r, and a buffer that held old and then new, are those of the answer; a call that is in order and
---                         wants memory may also meet want of it, and then writes nothing
+-- Replies j p x r old new the number r, and a buffer that held old and then new, are those of the answer, or of want of memory
 use Rattle.std.specs.Prelude.{◌≡◌, ℕ, ◌⊎◌, List, IsSome, Some, None, Ok, Err, Option, Result, ◌==◌, if◌then◌else◌}
 use Rattle.rules.specs.declared.primitives.Match.{Match}
 use Rattle.host.specs.declared.miss.Miss.{Miss}
@@ -44,6 +43,7 @@ abbrev pub SmallAnswer : Result Match ℕ → Type 0
 SmallAnswer (Ok m) = Small m
 SmallAnswer (Err n) = Unit {0}
 
+-- want of memory comes only of a call that is in order and wants some, and writes nothing
 abbrev pub Replies : List ℕ → ℕ → Option SearcherKind → ℕ → List ℕ → List ℕ → Type 0
 Replies job place x r old new =
     ((r ≡ code (answer job place x)) × (new ≡ buffer_after (answer job place x) old))

@@ -3,8 +3,8 @@
 -- text_in s              the text that a step reads
 -- text_of_first is       the text of the first record
 -- first_text job         the first text of a job
--- text_for b x t         the text t, if there is one, for the searcher x over the book b; a mask count that b does not permit goes first
--- hit_in b place t       what the search of a text comes to, or why there is none to be searched
+-- text_for b x t         the text t for the searcher x over the book b, if b permits x, and if there is one
+-- hit_in b place t       what the search of the text t comes to, or why there is none to be searched
 -- in_book d x t place    the refusal of d, where closing the book answered d; else what the search comes to
 -- outcome job place x    the hit in a job's first text, or else why there is none: the first refusal up to that text goes first
 -- WantsMemory job        memory is wanted for a job: a pattern before its first text is to be entered, before which nothing is refused

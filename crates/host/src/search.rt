@@ -1,4 +1,5 @@
-ghost use Rattle.std.specs.Prelude.{◌≡◌, Some, None, Ok, Err, IfOk, IfErr, MatchOption};
+ghost use Rattle.std.specs.Prelude.{◌≡◌, Ok, Err, IfOk, IfErr};
+ghost use Rattle.std.specs.Option.{option_copied};
 ghost use Rattle.job.specs.Format.{step};
 ghost use Rattle.host.specs.Outcomes.{text_in, text_for, outcome, FailsWith, Small};
 
@@ -11,7 +12,7 @@ use std::alloc::Global;
 
 /// The text at which a reader stands.
 fn first_text<'a>(mut texts: Reader<'a>) -> Option<&'a [u8]>
-    ensures { MatchOption result (text_in (step texts.entry.job.now texts.entry.at) ≡ None) (λ t. text_in (step texts.entry.job.now texts.entry.at) ≡ Some t.now) }
+    ensures { option_copied result ≡ text_in (step texts.entry.job.now texts.entry.at) }
 {
     let placed = texts.next().ok()??;
     match placed.record {

@@ -4,8 +4,8 @@
 -- and_then d f          what comes of the answer d by the step f; a fault stays
 -- fill b is             the open book b after all of the records is, or the first refusal
 -- closes b at           the open book b closed at a place, or the refusal of a book without patterns
--- closed_at b is s n    the open book b closed at the first of the texts is; without one at the end n, unless reading stops before, at the fault s
--- opening b r n         the book of a job of n bytes, where b is the open book so far and r is what is left to read, or the first fault
+-- closed_at b is s n    the open book b closed at the first of the texts is; without one at the end n, unless reading stopped at the fault s
+-- opening b r n         the book of a job of n bytes, b being the open book so far and r what is left to read; or the first fault
 -- read_book job         the book of what is read of a job, or the first fault up to its first text
 -- opened job            the same of a job that may be too long
 use Rattle.std.specs.Prelude.{ℕ, List, [], ◌∷◌, length, Some, None, Ok, Err, Option, Result, ◌==◌, nat_lt, if◌then◌else◌}

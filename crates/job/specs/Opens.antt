@@ -1,14 +1,14 @@
--- Which book a job opens to, or which fault comes: of a job that is records in a row, and then nothing or a first record that is refused.
+-- Which book a job opens to, or which fault comes: of a job that is records in a row, and then nothing or a record that is refused.
 -- patterns_of es     the patterns before the first text, in their order
 -- last_kind k es     the last kind before the first text; k where there is none
 -- book_in es         the book of these
 -- NoText es          none of the records es is a text
 -- BeginWith es xs e  the records es begin with the records xs, none of which is a text, and then e
--- ClosedAt es s at   the book of the records es, if no pattern is refused, is closed at this place, where s is the fault at which reading stops
--- OpensTo es s b     b is the book of the records es, behind which reading stops at the fault s, and may be opened
--- FirstFault es s f  f is the first fault up to the first text, or else to the end, of these records
--- OpensAs job es s   the job opens to just the book to which these records open, and comes to just the first fault
--- OpensSo            so does every job of no more than `max_job` bytes that is such records, and then nothing or one that is refused so
+-- ClosedAt es s at   the book of the records es, behind which reading stops at the fault s, is closed at a place if no pattern is refused
+-- OpensTo es s b     b is the book of these records, within the bounds, with a pattern, and there is a place where it is closed
+-- FirstFault es s f  f is the first fault of these records, up to the first text, or else to the end
+-- OpensAs job es s   the job opens to exactly that book, and what comes instead is exactly the first fault
+-- OpensSo            so does every job of at most max_job bytes that is such records, and then nothing or one that is refused so
 -- TooLong            a longer job is refused for just that, at the place 0
 use Rattle.std.specs.Prelude.{◌≡◌, ℕ, ◌<◌, ◌≤◌, ◌↔◌, false, List, [], ◌∷◌, ◌++◌, All, length, Some, None, Ok, Err, Option}
 use Rattle.rules.specs.declared.fault.Fault.{Fault}

@@ -30,7 +30,12 @@ put i r = record { items = i ∷ r.items; stop = r.stop }
 
 unfoldable pub reading_from : ℕ → List ℕ → ℕ → Reading
 reading_from zero job at = ends None
-reading_from (suc n) job at = elim (step job at) [ over ↦ ends None | bad r ↦ ends (Some (refused at r)) | good e next ↦ put (item at e) (reading_from n job next) ]
+reading_from (suc n) job at =
+    elim (step job at) [
+      | over ↦ ends None
+      | bad r ↦ ends (Some (refused at r))
+      | good e next ↦ put (item at e) (reading_from n job next)
+    ]
 
 -- a record is longer than nothing, so a job has no more of them than bytes
 unfoldable pub reading : List ℕ → ℕ → Reading

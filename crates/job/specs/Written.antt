@@ -5,8 +5,8 @@
 -- items_of at es  the records es with their places, the first one's mark standing at a place
 -- entries_of is   what the records is hold
 -- Short es        the length of each of the records es can be announced
--- Stopped t at s  t stands behind records that end at a place: nothing, or, where s is a fault there, a first record that is refused so
--- ReadsBack       short records in a row, and then nothing or a first record that is refused, read as those records, and that fault
+-- Stopped t at s  t stands behind records that end at a place: nothing, or, where s is a fault there, a record that is refused so
+-- ReadsBack       short records in a row, and then nothing or a record that is refused, read as those records, and that fault
 -- WrittenAs j r   the job j is what is read of it, r, as it is written, and what stands behind that
 -- ReadsAll        every run of bytes is the records that are read of it, as they are written, and what stands behind them
 use Rattle.std.specs.Prelude.{◌≡◌, ℕ, ◌+◌, ◌/◌, ◌%◌, ◌<◌, ◌≤◌, List, [], ◌∷◌, ◌++◌, All, map, length, Some, None, Option}
