@@ -13,8 +13,8 @@ use Rattle.std.specs.Prelude.{◌≡◌, ℕ, ◌<◌, ◌≤◌, true, ◌⊎�
 use Rattle.rules.specs.declared.fault.Fault.{Fault}
 use Rattle.rules.specs.declared.fault.Refusal.TheVariants.{Memory}
 use Rattle.rules.specs.Book.{Book, count_of}
-use Rattle.rules.specs.Ledger.{hits_of}
-use Rattle.rules.specs.History.{Holding, Keeps}
+use Rattle.intake.specs.Ledger.{hits_of}
+use Rattle.intake.specs.History.{Holding, Keeps}
 use Rattle.rules.specs.Faults.{refused}
 use Rattle.job.specs.Reading.{Item, Reading, reading}
 use Rattle.job.specs.Texts.{is_text, texts}

@@ -12,7 +12,7 @@ use Rattle.rules.specs.declared.primitives.Match.{Match}
 use Rattle.rules.specs.Limits.{max_hits}
 use Rattle.rules.specs.Book.{Book}
 use Rattle.rules.specs.Listing.{listing}
-use Rattle.rules.specs.Ledger.{scan_answer}
+use Rattle.intake.specs.Ledger.{scan_answer}
 use Rattle.rules.specs.Faults.{refused}
 use Rattle.job.specs.Format.{a_pattern, kind_first, kind_longest, a_text}
 use Rattle.job.specs.Reading.{Item}

@@ -2,7 +2,7 @@ ghost use Rattle.std.specs.Prelude.{◌≡◌, ◌+◌, ◌≤◌, ◌++◌, tru
 ghost use Rattle.rules.specs.declared.fault.Refusal.TheVariants.{Memory};
 ghost use Rattle.rules.specs.Listing.{listing};
 ghost use Rattle.rules.specs.Faults.{refused, placed};
-ghost use Rattle.rules.specs.History.{Counted};
+ghost use Rattle.intake.specs.History.{Counted};
 ghost use Rattle.job.specs.Reading.{reading};
 ghost use Rattle.job.specs.Memory.{Refuses};
 ghost use Rattle.account.specs.Texts.{line, scanned};

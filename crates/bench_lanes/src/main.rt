@@ -30,20 +30,20 @@ const PATTERNS: [&[u8]; 8] = [
 const LETTERS: &[u8; 32] = b"ABCDEFGHIJKLMNOPQRSTUVWXYZ-- ...";
 
 /// The book. (Each program that makes one has other patterns, and another error.)
-fn book(heap: Global) -> Result<Book, Fault> {
-    let mut patterns = Patterns::new(heap);
+fn book(alloc: Global) -> Result<Book, Fault> {
+    let mut patterns = Patterns::new(alloc);
     for pattern in PATTERNS {
         patterns.add(pattern)?;
     }
     Ok(patterns.close())
 }
 
-fn text(heap: Global) -> anyhow::Result<Vec<u8>> {
+fn text(alloc: Global) -> anyhow::Result<Vec<u8>> {
     let mut random = Xorshift::FIRST;
     Ok(
         (0..LEN)
             .map(|_| LETTERS[(random.next() % 32) as usize])
-            .collect(heap)?,
+            .collect(alloc)?,
     )
 }
 
@@ -77,9 +77,9 @@ fn time_masks<V: Vector>(
 }
 
 fn main(rt: HostRuntime) -> anyhow::Result<()> {
-    let heap = rt.alloc();
-    let book = Rc::new(heap, book(heap)?)?;
-    let text = text(heap)?;
+    let alloc = rt.alloc();
+    let book = Rc::new(alloc, book(alloc)?)?;
+    let text = text(alloc)?;
     let text = text.as_slice();
     time(&rt, "rolling hash", &RabinKarp::new(book.clone()?), text)?;
     time_masks::<Single<ArrayHalf>>(&rt, "one array half", &book, text)?;

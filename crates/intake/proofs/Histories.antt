@@ -9,8 +9,8 @@ use Rattle.rules.specs.Limits.{max_patterns, max_text, max_texts}
 use Rattle.rules.specs.Book.{Book, Within, count_of}
 use Rattle.rules.specs.Listing.{listing, Covers}
 use Rattle.rules.specs.Faults.{placed, numbered, told}
-use Rattle.rules.specs.Ledger.{State, starts, hits_with, used, accepts, scan_answer, scan_of, hits_after, tally_answer, Asked, ask_scan, ask_tally, Told, told_scan, told_tally, tells, adds}
-use Rattle.rules.specs.History.{Event, after, Past, made_over, then, state, Covered, ToldSo, Holding, used_by, tally_in, Counted, Keeps, Served}
+use Rattle.intake.specs.Ledger.{State, starts, hits_with, used, accepts, scan_answer, scan_of, hits_after, tally_answer, Asked, ask_scan, ask_tally, Told, told_scan, told_tally, tells, adds}
+use Rattle.intake.specs.History.{Event, after, Past, made_over, then, state, Covered, ToldSo, Holding, used_by, tally_in, Counted, Keeps, Served}
 use Rattle.rules.proofs.Listings.{listing_covers}
 use Rattle.rules.proofs.Enters.{entered}
 use Rattle.intake.specs.Intakes.{ServesCall}

@@ -5,8 +5,8 @@ use Rattle.rules.specs.declared.fault.Fault.{Fault}
 use Rattle.rules.specs.declared.fault.Refusal.{Refusal}
 use Rattle.rules.specs.Book.{Book, Within}
 use Rattle.rules.specs.Faults.{placed, told}
-use Rattle.rules.specs.Ledger.{starts, hits_of, scan_answer, hits_after, ask_scan, told_scan}
-use Rattle.rules.specs.History.{Past, then, Holding, used_by, Counted, Served}
+use Rattle.intake.specs.Ledger.{starts, hits_of, scan_answer, hits_after, ask_scan, told_scan}
+use Rattle.intake.specs.History.{Past, then, Holding, used_by, Counted, Served}
 use Rattle.intake.specs.Intakes.{Scans}
 use Rattle.intake.proofs.Histories.{served_scan}
 

@@ -1,8 +1,8 @@
 -- Runs of calls.
 use Rattle.std.proofs.Common.{◌≡◌, List, [], ◌∷◌, ◌++◌, map, length, sym, refl, ap, ◌∙◌, subst, append_assoc, arith}
 use Rattle.std.proofs.lemmas.List.{length-map, map_push}
-use Rattle.rules.specs.Ledger.{Asked, Told}
-use Rattle.rules.specs.History.{Event, Past, Holding, Served}
+use Rattle.intake.specs.Ledger.{Asked, Told}
+use Rattle.intake.specs.History.{Event, Past, Holding, Served}
 use Rattle.intake.specs.declared.calls.Call.{Call}
 use Rattle.intake.specs.declared.calls.Reply.{Reply}
 use Rattle.intake.specs.Calls.{asks, tell, pairs, following}

@@ -12,8 +12,8 @@ use Rattle.rules.specs.Book.{Book, Within, count_of}
 use Rattle.rules.specs.Search.{id_of, Occurs}
 use Rattle.rules.specs.Listing.{listing}
 use Rattle.rules.specs.Faults.{placed, numbered, told}
-use Rattle.rules.specs.Ledger.{State, starts, accepts, hits_with, hits_of, scan_answer, hits_after}
-use Rattle.rules.specs.History.{Holding, Counted, Keeps}
+use Rattle.intake.specs.Ledger.{State, starts, accepts, hits_with, hits_of, scan_answer, hits_after}
+use Rattle.intake.specs.History.{Holding, Counted, Keeps}
 use Rattle.rules.proofs.Listings.{listing_covers, rest_short}
 
 -- what `hits_of` is once one more text is accepted

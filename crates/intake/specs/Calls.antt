@@ -5,8 +5,8 @@
 -- following p es    the past p, and then the events es
 use Rattle.std.specs.Prelude.{◌≡◌, List, [], ◌∷◌, ◌++◌, IfErr, vec_items}
 use Rattle.rules.specs.Faults.{told}
-use Rattle.rules.specs.Ledger.{Asked, ask_scan, ask_tally, Told, told_scan, told_tally}
-use Rattle.rules.specs.History.{Event, Past}
+use Rattle.intake.specs.Ledger.{Asked, ask_scan, ask_tally, Told, told_scan, told_tally}
+use Rattle.intake.specs.History.{Event, Past}
 use Rattle.intake.specs.declared.calls.Call.{Call}
 use Rattle.intake.specs.declared.calls.Call.TheVariants.{Scan, Tally}
 use Rattle.intake.specs.declared.calls.Reply.{Reply}

@@ -5,8 +5,8 @@ use Rattle.std.specs.Prelude.{◌≡◌, ℕ, List, length, Result, MatchResult}
 use Rattle.rules.specs.declared.primitives.Match.{Match}
 use Rattle.rules.specs.declared.fault.Fault.{Fault}
 use Rattle.rules.specs.Faults.{placed}
-use Rattle.rules.specs.Ledger.{scan_answer, hits_after, Asked, Told}
-use Rattle.rules.specs.History.{Past, then, Holding, used_by, Counted, Served}
+use Rattle.intake.specs.Ledger.{scan_answer, hits_after, Asked, Told}
+use Rattle.intake.specs.History.{Past, then, Holding, used_by, Counted, Served}
 
 unfoldable pub ServesCall : Holding → Asked → Told → Holding → Type 0
 ServesCall m a t m' = (p : Past) → Served p m → Served (then p a t) m'

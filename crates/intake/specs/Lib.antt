@@ -1,3 +1,5 @@
+pub mod Ledger
+pub mod History
 pub mod Tallies
 pub mod Intakes
 pub mod Calls

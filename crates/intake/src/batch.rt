@@ -1,5 +1,5 @@
 ghost use Rattle.std.specs.Prelude.{◌≡◌, ◌≤◌, ◌↔◌, [], map, length, vec_len, vec_capacity, All, IsOk, IfOk, MatchResult};
-ghost use Rattle.rules.specs.History.{Past, Served};
+ghost use Rattle.intake.specs.History.{Past, Served};
 ghost use Rattle.intake.specs.Calls.{asks, tell, pairs, following, Outside};
 
 use crate::calls::{Call, Reply, serve};

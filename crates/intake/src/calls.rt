@@ -1,5 +1,5 @@
 ghost use Rattle.std.specs.Prelude.{◌≡◌, map, length, vec_len, vec_capacity, All};
-ghost use Rattle.rules.specs.History.{made_over, Served};
+ghost use Rattle.intake.specs.History.{made_over, Served};
 ghost use Rattle.intake.specs.Batches.{calls_of, room_of};
 ghost use Rattle.intake.specs.Calls.{asks, tell, pairs, following, Outside};
 ghost use Rattle.intake.specs.Intakes.{ServesCall};

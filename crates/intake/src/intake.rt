@@ -2,8 +2,8 @@ ghost use Rattle.std.specs.Prelude.{◌≡◌, ◌≤◌, length};
 ghost use Rattle.rules.specs.Limits.{max_texts};
 ghost use Rattle.rules.specs.Refusals.{number};
 ghost use Rattle.rules.specs.Faults.{placed, told};
-ghost use Rattle.rules.specs.Ledger.{ask_scan, ask_tally, told_scan, told_tally};
-ghost use Rattle.rules.specs.History.{Past, made_over, state, tally_in, Served};
+ghost use Rattle.intake.specs.Ledger.{ask_scan, ask_tally, told_scan, told_tally};
+ghost use Rattle.intake.specs.History.{Past, made_over, state, tally_in, Served};
 ghost use Rattle.intake.specs.Intakes.{Scans, ServesCall};
 
 use crate::hits::{count_hits, write_hits};
@@ -27,7 +27,7 @@ pub struct Intake<F: Finder> {
 }
 
 impl<F: Finder> Model for Intake<F> {
-    ghost use Rattle.rules.specs.History.{Holding};
+    ghost use Rattle.intake.specs.History.{Holding};
     ghost use Rattle.intake.specs.Tallies.{tallies, IsWithinLimits};
 
     ghost Value = { Holding };

@@ -1,7 +1,7 @@
 ghost use Rattle.std.specs.Prelude.{◌≡◌, ℕ, ◌+◌, ◌^◌, ◌<◌, length, replicate, All, slice_index, slice_set, sum};
 ghost use Rattle.rules.specs.Limits.{max_patterns};
 ghost use Rattle.rules.specs.Search.{id_of};
-ghost use Rattle.rules.specs.Ledger.{hits_with};
+ghost use Rattle.intake.specs.Ledger.{hits_with};
 ghost use Rattle.intake.specs.Tallies.{tallies};
 
 use pattern::MAX_PATTERNS;

@@ -6,7 +6,7 @@ use account::{report, run};
 use job::MAX_JOB;
 use std::io::Read;
 
-/// A job above 65,536 bytes is refused, so no more than one byte more is read.
+/// How many bytes are read at the most: a job of more than `MAX_JOB` bytes is refused, so one byte more tells.
 const LIMIT: u64 = MAX_JOB as u64 + 1;
 
 fn main(rt: HostRuntime) -> anyhow::Result<()> {

@@ -1,15 +1,16 @@
 -- What is found at a place, by the bucket of the hash of its window.
 -- first_of b t s ids  the match of the first of the ids whose pattern occurs in t at s
-use Rattle.std.proofs.Common.{◌≡◌, ℕ, zero, suc, ◌+◌, ◌%◌, ◌<◌, ◌≤◌, Bool, false, cond, eqb, leb, ltb, ◌&&◌, List, [], ◌∷◌, length, get_or, drop, Some, None, Decides, Option, sym, refl, ap, ◌∙◌, subst, inl, inr, arith, below_more}
-use Rattle.std.proofs.lemmas.Bool.{cases_Bool, cond-true, cond-false, le-leb, leb-true}
-use Rattle.std.proofs.lemmas.Bool.Decides.{Decides-eqb, Decides-ltb, Decides-and, Decides-below_and, not_from_Decides}
+use Rattle.std.proofs.Common.{◌≡◌, ℕ, zero, suc, ◌+◌, ◌%◌, ◌<◌, ◌≤◌, Bool, false, cond, ltb, ◌&&◌, List, [], ◌∷◌, length, get_or, drop, Some, None, Decides, Option, sym, refl, ap, ◌∙◌, subst, inl, inr, arith, below_more}
+use Rattle.std.proofs.lemmas.Bool.{cases_Bool, cond-true, cond-false}
+use Rattle.std.proofs.lemmas.Bool.Decides.{Decides-ltb, Decides-and, not_from_Decides}
 use Rattle.std.proofs.lemmas.Grind.{get_or_default_zero}
 use Rattle.std.proofs.lemmas.List.{drop_more, drop_all}
 use Rattle.rules.specs.declared.primitives.Match.{Match}
 use Rattle.rules.specs.Limits.{hash_buckets}
 use Rattle.rules.specs.Book.{Book, count_of, pattern, shortest}
-use Rattle.rules.specs.Search.{OccursAt, Stands, agree, standing, hit, found_within}
+use Rattle.rules.specs.Search.{OccursAt, standing, hit, found_within}
 use Rattle.rules.specs.Places.{AnswersAt}
+use Rattle.rules.proofs.Rule.{stands_decided}
 use Rattle.pattern.specs.Order.{order_in}
 use Rattle.finder.proofs.Choosing.{TriedAt, chosen, none}
 use Rattle.rabinkarp.specs.Hash.{hash_of, window}
@@ -30,11 +31,8 @@ first_of b t s (i ∷ ids) = cond (occurring b t s i) (Some (hit b i s)) (first_
 occurs_decided : (b : Book) (t : List ℕ) (s i : ℕ) → Decides (occurring b t s i) (OccursAt b t i s)
 unfolding occurring
 occurs_decided b t s i =
-    let p = pattern b i in
-    let stands : Decides (standing p t s) (Stands p t s) =
-    Decides-and (leb (s + length p) (length t)) (agree p t s (length p)) (leb-true (s + length p) (length t), le-leb (s + length p) (length t))
-    (Decides-below_and (λ k. eqb (get_or t (s + k) 0) (get_or p k 0)) (λ k. get_or t (s + k) 0 ≡ get_or p k 0) (agree p t s) (λ k. Decides-eqb (get_or t (s + k) 0) (get_or p k 0)) refl (λ _. refl) (length p)) in
-    let both = Decides-and (ltb i (count_of b)) (standing p t s) (Decides-ltb i (count_of b)) stands in
+    let stands = stands_decided (pattern b i) t s in
+    let both = Decides-and (ltb i (count_of b)) (standing (pattern b i) t s) (Decides-ltb i (count_of b)) stands in
     (λ e. let h = both.0 e in record { known = h.0; stands = h.1 }, λ o. both.1 (o.known, o.stands))
 
 module _ (b : Book) (t : List ℕ) (s : ℕ) (ids : List ℕ) where

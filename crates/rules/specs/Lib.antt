@@ -7,5 +7,3 @@ pub mod Listing
 pub mod Entered
 pub mod Theorems
 pub mod Faults
-pub mod Ledger
-pub mod History

@@ -3,7 +3,7 @@ use Rattle.std.proofs.lemmas.Result.{err_from_is_err_and}
 use Rattle.rules.specs.declared.fault.Fault.{Fault}
 use Rattle.rules.specs.declared.fault.Refusal.TheVariants.{AfterText}
 use Rattle.rules.specs.Listing.{listing}
-use Rattle.rules.specs.History.{Keeps}
+use Rattle.intake.specs.History.{Keeps}
 use Rattle.rules.specs.Faults.{refused, placed}
 use Rattle.intake.proofs.Scans.{keeps_more}
 use Rattle.job.specs.Format.{a_text, good, step}

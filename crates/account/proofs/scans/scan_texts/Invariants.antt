@@ -1,5 +1,5 @@
 use Rattle.std.proofs.Common.{◌≡◌, ℕ, ◌-◌, List, ◌++◌, length, drop, vec_items}
-use Rattle.rules.specs.History.{Keeps}
+use Rattle.intake.specs.History.{Keeps}
 use Rattle.job.specs.Reading.{reading}
 use Rattle.account.specs.Texts.{accepted, ended, lines_of}
 use Rattle.account.proofs.scans.scan_texts.Given as goal

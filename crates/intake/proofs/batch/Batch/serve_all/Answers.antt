@@ -1,7 +1,7 @@
 use Rattle.std.proofs.Common.{[], ◌∷◌, ◌++◌, All, length, vec_items, refl, sym, ap, ◌∙◌, subst, append-nil, arith}
 use Rattle.std.proofs.lemmas.List.{length_push}
 use Rattle.std.proofs.lemmas.List.Elements.{All-push}
-use Rattle.rules.specs.History.{Served}
+use Rattle.intake.specs.History.{Served}
 use Rattle.intake.specs.Calls.{following, Outside}
 use Rattle.intake.proofs.Runs.{done-push, serves_more}
 use Rattle.intake.proofs.batch.Batch.serve_all.Goals as goal

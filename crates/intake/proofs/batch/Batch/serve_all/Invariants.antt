@@ -1,6 +1,6 @@
 use Rattle.std.proofs.Common.{◌≡◌, ◌≤◌, List, ◌++◌, All, map, length, vec_items, vec_len, vec_capacity}
 use Rattle.std.specs.Vec.Iter.{into_iter_items, into_iter_len}
-use Rattle.rules.specs.History.{Past, Served}
+use Rattle.intake.specs.History.{Past, Served}
 use Rattle.intake.specs.declared.calls.Call.{Call}
 use Rattle.intake.specs.Calls.{asks, tell, pairs, following, Outside}
 use Rattle.intake.proofs.batch.Batch.serve_all.Given as goal

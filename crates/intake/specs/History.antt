@@ -19,7 +19,7 @@ use Rattle.rules.specs.declared.fault.Refusal.TheVariants.{UnknownPattern}
 use Rattle.rules.specs.Book.{Book, count_of}
 use Rattle.rules.specs.Listing.{listing, Covers}
 use Rattle.rules.specs.Entered.{Entered}
-use Rattle.rules.specs.Ledger.{State, starts, hits_with, hits_of, Asked, ask_scan, ask_tally, Told, told_scan, told_tally, tells, adds}
+use Rattle.intake.specs.Ledger.{State, starts, hits_with, hits_of, Asked, ask_scan, ask_tally, Told, told_scan, told_tally, tells, adds}
 
 pub record Event : Type 0 where
   pub asked : Asked
