@@ -45,7 +45,6 @@ pub(crate) fn scan_text<F: Finder>(
     ensures accepted { OnOk result (is_ok (scanned intake.old.book intake.old.accepted text.now) ≡ true) }
     ensures counted { OnOk result (Counted intake.old text.now intake.new) }
     ensures noted { OnOk result (lines.new.items ≡ lines.old.items ++ map (line intake.old.accepted) (listing intake.old.book text.now)) }
-
     ensures err { IfErr result (Refuses (placed place (scanned intake.old.book intake.old.accepted text.now)) (λ f. f ≡ refused 0 Memory)) }
     ensures same_intake { OnErr result (intake.new ≡ intake.old) }
     ensures same_lines { OnErr result (lines.new.items ≡ lines.old.items) }

@@ -9,7 +9,7 @@
 --                     lane's as there are masks but one is a candidate for k
 -- Recalls r at j xs   of the window before a place: bit k of lane i of xs is set exactly if mask j admits k for the lane's byte, or that
 --                     was not loaded
--- Recalled means r at seen   the same of what is seen of each mask, so far as a later mask is used
+-- Recalled means r at seen   the same of what is seen of each mask, so far as a later mask is used, the run having begun there or before
 -- MaskOf n means v g j       the vectors of v hold mask j of g
 -- MasksOf n means m g        the vectors of m hold the masks of g, of which one to max_masks are used
 -- IsRun n means m t r        r is a run through the text t with the masks m. n is the number of lanes, means the lanes of a vector

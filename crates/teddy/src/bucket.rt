@@ -17,7 +17,7 @@ use pattern::{Book, MAX_MASKS, MAX_PATTERNS};
 use rules::PatternID;
 
 /// How many buckets there are: as many as a lane has bits.
-pub const NUM_BUCKETS: usize = 8;
+pub const BUCKETS: usize = 8;
 
 /// A byte of a pattern, 0 past its end.
 pub(crate) fn byte_at(pattern: &[u8], j: usize) -> u8
@@ -50,7 +50,7 @@ fn leader_of(book: &Book, pattern: &[u8]) -> usize
 fn bucket_of(book: &Book, id: PatternID) -> usize
     ensures { result ≡ (groups_of book.now).bucket id }
 {
-    NUM_BUCKETS - 1 - leader_of(book, book.get(id)) % NUM_BUCKETS
+    BUCKETS - 1 - leader_of(book, book.get(id)) % BUCKETS
 }
 
 /// The bucket of each pattern, at its id; 0 at an index that is no id. The table has a fixed size, so that making it cannot

@@ -39,7 +39,7 @@ mod teddy;
 mod theorems;
 
 pub use bits::take_lowest;
-pub use bucket::{NUM_BUCKETS, assign};
+pub use bucket::{BUCKETS, assign};
 pub use candidate::{Masks, Seen};
 pub use mask::Mask;
 pub use mask_table::MaskTable;

@@ -4,7 +4,7 @@ ghost use Rattle.pattern.specs.Entering.{Ready};
 ghost use Rattle.teddy.specs.Teddy.{nearest};
 
 use crate::bits::take_lowest;
-use crate::bucket::NUM_BUCKETS;
+use crate::bucket::BUCKETS;
 use crate::candidate::Seen;
 use crate::teddy::Teddy;
 use finder::{Finder, Searcher, verify};
@@ -66,8 +66,8 @@ impl<V: Vector> Slim<V> {
                 'verify: for k in 0..lanes / 8 {
                     let mut rest = candidates.lane_64(k);
                     'verify64: while let Some(bit) = take_lowest(&mut rest) {
-                        let start = at - back + 8 * k + bit / NUM_BUCKETS;
-                        'verify_bucket: for id in self.teddy.buckets.bucket(bit % NUM_BUCKETS) {
+                        let start = at - back + 8 * k + bit / BUCKETS;
+                        'verify_bucket: for id in self.teddy.buckets.bucket(bit % BUCKETS) {
                             if let Some(hit) = verify(book, *id, text, start) {
                                 break 'find Some(hit);
                             }

@@ -6,7 +6,7 @@
 ghost use Rattle.std.specs.Prelude.{length};
 ghost use Rattle.std.specs.Iterator.{at_most};
 
-use host::find;
+use host::{ANSWER_BYTES, find};
 use std::alloc::Global;
 use std::{fs, io};
 
@@ -18,7 +18,7 @@ struct Entry<'a> {
     searcher: u32,
     masks: usize,
     number: u32,
-    written: &'a [u8; 12],
+    written: &'a [u8; ANSWER_BYTES],
 }
 
 /// What is left of a list. An entry is a job's length and a place in two bytes each, low byte first, a searcher's number, a
@@ -36,7 +36,7 @@ impl<'a> Iterator for Entries<'a> {
     fn next(&mut self) -> Option<Entry<'a>> {
         let (head, rest) = self.rest.split_first_chunk::<7>()?;
         let [a, b, c, d, searcher, masks, number] = *head;
-        let (written, rest) = rest.split_first_chunk::<12>()?;
+        let (written, rest) = rest.split_first_chunk::<ANSWER_BYTES>()?;
         let size = u16::from_le_bytes([a, b]);
         let place = u16::from_le_bytes([c, d]);
         let (job, rest) = rest.split_at_checked(usize::from(size))?;
@@ -53,7 +53,7 @@ impl<'a> Iterator for Entries<'a> {
 }
 
 fn agrees(alloc: Global, entry: Entry<'_>) -> bool {
-    let mut out = [0; 12];
+    let mut out = [0; ANSWER_BYTES];
     let number = find(
         alloc,
         entry.job,

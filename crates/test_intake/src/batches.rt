@@ -1,4 +1,4 @@
-//! Batches of calls, each at a new intake.
+//! Batches of calls, each at a new intake, and one more at an intake in use.
 
 use crate::given::{old, searcher};
 use intake::{Batch, Call, Reply, make_and_serve};
@@ -44,20 +44,29 @@ fn show_reply(rt: &impl Print, reply: &Reply) -> io::Result<()> {
     }
 }
 
-/// Makes the calls of a batch at a new intake.
-fn serve(rt: &(impl Print + AllocGlobal), batch: Option<Batch<'static>>) -> anyhow::Result<()> {
+fn show(rt: &impl Print, replies: &[Reply], texts: u32) -> io::Result<()> {
+    println!(rt; "a batch: {} replies, {texts} texts", replies.len())?;
+    for reply in replies {
+        show_reply(rt, reply)?;
+    }
+    Ok(())
+}
+
+/// Makes the calls of a batch at a new intake, and those of another one, if there is one, behind them.
+fn serve(
+    rt: &(impl Print + AllocGlobal),
+    batch: Option<Batch<'static>>,
+    more: Option<Batch<'static>>,
+) -> anyhow::Result<()> {
     let Some(batch) = batch else {
         println!(rt; "no batch: too little room for the replies")?;
         return Ok(());
     };
-    let run = make_and_serve(searcher(rt.alloc(), &[b"A", b"BC"])?, batch);
-    println!(rt;
-        "a batch: {} replies, {} texts",
-        run.replies.len(),
-        run.intake.count()
-    )?;
-    for reply in &run.replies {
-        show_reply(rt, reply)?;
+    let mut run = make_and_serve(searcher(rt.alloc(), &[b"A", b"BC"])?, batch);
+    show(rt, &run.replies, run.intake.count())?;
+    if let Some(more) = more {
+        let replies = more.serve_all(&mut run.intake);
+        show(rt, &replies, run.intake.count())?;
     }
     Ok(())
 }
@@ -65,7 +74,7 @@ fn serve(rt: &(impl Print + AllocGlobal), batch: Option<Batch<'static>>) -> anyh
 pub(crate) fn run(rt: &(impl Print + AllocGlobal)) -> anyhow::Result<()> {
     let alloc = rt.alloc();
     // four calls, with room for no reply, for four, and with a list of their own
-    serve(rt, batch_over(alloc, 0)?)?;
-    serve(rt, batch_over(alloc, 4)?)?;
-    serve(rt, batch_new(alloc)?)
+    serve(rt, batch_over(alloc, 0)?, None)?;
+    serve(rt, batch_over(alloc, 4)?, None)?;
+    serve(rt, batch_new(alloc)?, batch_new(alloc)?)
 }

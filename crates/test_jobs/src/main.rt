@@ -26,7 +26,7 @@ fn job_count(rt: &(impl Env + AllocGlobal)) -> anyhow::Result<usize> {
 }
 
 fn main(rt: HostRuntime) -> anyhow::Result<()> {
-    // Proved for every job, so this says only that they can be called.
+    // Laws of the definitions, which hold of every job: each is called once.
     ensure!(jobs_open() && jobs_read_back());
     let count = job_count(&rt)?;
     stored::run_all(&rt)?;

@@ -1,9 +1,10 @@
 //! The example of docs/TEDDY.md: the buckets of its book, and the candidates of the first window of its text.
 
 use crate::book::closed;
+use anyhow::ensure;
 use pattern::Book;
 use rules::MatchKind;
-use teddy::{Mask, MaskTable, Masks, NUM_BUCKETS, Seen, assign, take_lowest};
+use teddy::{BUCKETS, Mask, MaskTable, Masks, Seen, assign, take_lowest};
 use vector::{ArrayHalf, Single, Vector};
 
 const TEXT: &[u8] = b"2 DC-40-R, 5 LC-80.";
@@ -20,6 +21,22 @@ fn masks(book: &Book) -> Masks<Mask<Single<ArrayHalf>>> {
     }
 }
 
+/// Whether one test of all four masks gives what the tests of fewer masks give.
+fn tests_agree(masks: &Masks<Mask<Single<ArrayHalf>>>) -> bool {
+    let chunk = Single::load(TEXT, 3);
+    let Masks {
+        first,
+        second,
+        third,
+        fourth,
+        ..
+    } = *masks;
+    let all = Mask::members4(chunk, first, second, third, fourth);
+    Mask::members1(chunk, first) == all.0
+        && Mask::members2(chunk, first, second) == (all.0, all.1)
+        && Mask::members3(chunk, first, second, third) == (all.0, all.1, all.2)
+}
+
 /// Prints each pattern's bucket, and each candidate by its place and bucket.
 pub(crate) fn run(rt: &HostRuntime) -> anyhow::Result<()> {
     let book = closed(
@@ -29,7 +46,10 @@ pub(crate) fn run(rt: &HostRuntime) -> anyhow::Result<()> {
     )?;
     let [zero, one, two, ..] = assign(&book);
     println!(rt; "example: buckets {zero} {one} {two}")?;
-    let candidates = masks(&book).window(TEXT, 3, &mut Seen::blank());
+    let masks = masks(&book);
+    let candidates = masks.window(TEXT, 3, &mut Seen::blank());
+    ensure!(masks.candidate(Single::load(TEXT, 3), &mut Seen::blank()) == candidates);
+    ensure!(tests_agree(&masks));
     for k in 0..2usize {
         let mut rest = candidates.lane_64(k);
         // No more bits than a lane of 64 has.
@@ -37,8 +57,8 @@ pub(crate) fn run(rt: &HostRuntime) -> anyhow::Result<()> {
             let Some(bit) = take_lowest(&mut rest) else {
                 break;
             };
-            let place = 8 * k + bit / NUM_BUCKETS;
-            let bucket = bit % NUM_BUCKETS;
+            let place = 8 * k + bit / BUCKETS;
+            let bucket = bit % BUCKETS;
             println!(rt; "example: place {place}, bucket {bucket}")?;
         }
     }

@@ -28,7 +28,7 @@ fn main(rt: HostRuntime) -> anyhow::Result<()> {
     if is_wanted("example") {
         example::run(&rt)?;
     }
-    // Proved for every book and text, so this says only that they can be called.
+    // Laws of the definitions, which hold of every book and text: each is called once.
     ensure!(rules_hold() && tables_hold() && lines_hold());
     ensure!(hash_rolls(b"2 DC-40-R", 2, 4));
     Ok(())
