@@ -1,13 +1,17 @@
--- Laws of a scan that docs/PROOFS.md names. No proof of a call needs them: they are cases of what the calls' contracts say.
-use Rattle.std.proofs.Common.{◌≡◌, ℕ, List, length, Ok, Err, Result, MatchResult, IfErr, sym, refl, ap, subst}
+-- Laws of a scan, most of which docs/PROOFS.md names. No proof of a call needs them: they are cases of what the calls' contracts say.
+use Rattle.std.proofs.Common.{◌≡◌, ℕ, ◌<◌, ◌≤◌, List, length, Ok, Err, Result, MatchResult, IfErr, sym, refl, ap, subst, arith}
+use Rattle.std.proofs.lemmas.Bool.Decides.{nat_tests}
 use Rattle.rules.specs.declared.primitives.Match.{Match}
 use Rattle.rules.specs.declared.fault.Fault.{Fault}
 use Rattle.rules.specs.declared.fault.Refusal.{Refusal}
+use Rattle.rules.specs.Limits.{max_text, max_texts}
 use Rattle.rules.specs.Book.{Book, Within}
+use Rattle.rules.specs.Listing.{listing}
 use Rattle.rules.specs.Faults.{placed, told}
 use Rattle.intake.specs.Ledger.{starts, hits_of, scan_answer, hits_after, ask_scan, told_scan}
 use Rattle.intake.specs.History.{Past, then, Holding, used_by, Counted, Served}
 use Rattle.intake.specs.Intakes.{Scans}
+use Rattle.intake.proofs.Scans.{accepted}
 use Rattle.intake.proofs.Histories.{served_scan}
 
 -- no text, no hits
@@ -38,3 +42,25 @@ scan_refused m at t hs r f e answer = record {
   hits = sym (ap (hits_after m.book t hs) e);
   after = subst (λ y. MatchResult y (λ _. Counted m t m) (λ _. m ≡ m)) (sym e) refl;
 }
+
+-- what is known of a text that is accepted: k are its hits, of n texts that were accepted before, in a list with so much room
+pub record Accepted (b : Book) (n : ℕ) (t : List ℕ) (room k : ℕ) : Type 0 where
+  pub hits : k ≡ length (listing b t)
+  pub short : length t ≤ max_text
+  pub few : n < max_texts
+  pub fits : length (listing b t) ≤ room
+
+pub accepted_scan : (b : Book) (n : ℕ) (t : List ℕ) (room k : ℕ) → Ok k ≡ scan_answer b n t room → Accepted b n t room k
+accepted_scan b n t room k h = record {
+  hits = accepted b n t room k h;
+  short = grind (arith, nat_tests);
+  few = grind (arith, nat_tests);
+  fits = grind (arith, nat_tests);
+}
+
+pub accepted_at : (at : ℕ) (b : Book) (n : ℕ) (t : List ℕ) (room k : ℕ) → Ok k ≡ placed at (scan_answer b n t room) → Accepted b n t room k
+accepted_at at b n t room k e = accepted_scan b n t room k (unplaced (scan_answer b n t room) e)
+  where
+    unplaced : (r : Result ℕ Refusal) → Ok k ≡ placed at r → Ok k ≡ r
+    unplaced (Ok x) is = ap Ok (let s : k ≡ x = cc in s)
+    unplaced (Err f) is = cc

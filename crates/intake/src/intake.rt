@@ -1,5 +1,6 @@
-ghost use Rattle.std.specs.Prelude.{◌≡◌, ◌≤◌, length};
-ghost use Rattle.rules.specs.Limits.{max_texts};
+ghost use Rattle.std.specs.Prelude.{◌≡◌, ◌*◌, ◌≤◌, length, sum};
+ghost use Rattle.rules.specs.Book.{Within};
+ghost use Rattle.rules.specs.Limits.{max_patterns, max_text, max_texts};
 ghost use Rattle.rules.specs.Refusals.{number};
 ghost use Rattle.rules.specs.Faults.{placed, told};
 ghost use Rattle.intake.specs.Ledger.{ask_scan, ask_tally, told_scan, told_tally};
@@ -62,10 +63,13 @@ impl<F: Finder> Intake<F> {
         Ok(self.table.get(id))
     }
 
-    /// How many texts were accepted.
+    /// How many texts were accepted. A caller to whom an intake is lent learns its bounds here as well.
     pub fn count(&self) -> u32
         ensures value { result ≡ self.now.accepted }
         ensures within { result ≤ max_texts }
+        ensures book { Within self.now.book }
+        ensures many { length self.now.tallies ≡ max_patterns }
+        ensures room { sum self.now.tallies ≤ max_text * self.now.accepted }
         ensures served { (p : Past) → Served p self.now → result ≡ length (state p).texts }
     {
         self.accepted

@@ -63,6 +63,7 @@ impl TallyTable {
     pub(crate) fn raise_all(&mut self, hits: &[Match])
         requires known { All (λ m. id_of m < max_patterns) hits.now }
         requires room { sum (tallies self.old) + length hits.now < 2 ^ 32 }
+        ensures len { length (tallies self.new) ≡ length (tallies self.old) }
         ensures total { sum (tallies self.new) ≡ sum (tallies self.old) + length hits.now }
         ensures raised { (k : ℕ) → slice_index (tallies self.new) k ≡ slice_index (tallies self.old) k + hits_with k hits.now }
     {
