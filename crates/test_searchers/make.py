@@ -1,23 +1,21 @@
 #!/usr/bin/env python3
-"""Writes the lines of the file stdout that tell of drawn books, by a plain model: the generator of `test_random`, and where
-a pattern stands. Run it in the folder of the crate."""
+"""Writes the lines of the file stdout that tell of drawn books, by a plain model: the generator of `src/numbers.rt`, and
+where a pattern stands. Run it in the folder of the crate."""
 import re
 
 ALL = b'ABCDEFGHIJKLMNOPQRSTUVWXYZ'
 SHAPES = [
     (0, [1], b'AB'), (3, [1, 2, 3], b'AB'), (12, [2, 3, 4, 5, 6, 7], b'ABC'), (200, [3, 4, 5, 6], ALL),
     (1024, [4, 5, 6, 7, 8, 9, 10, 11], b'ABCD'), (8, [63, 64, 65, 66], b'AB'), (8, [64, 65, 66, 67], b'AB'),
-    (8, [65, 66, 67, 68], b'AB'), (8, [300, 303, 310, 319], ALL),
+    (8, [65, 66, 67, 68], b'AB'), (8, list(range(300, 320)), ALL),
 ]
-state = 88172645463325252
+state = 1
 
 
 def below(n):
     global state
-    state ^= state << 13 & (1 << 64) - 1
-    state ^= state >> 7
-    state ^= state << 17 & (1 << 64) - 1
-    return state % n if n else 0
+    state = (state * 6364136223846793005 + 1442695040888963407) % (1 << 64)
+    return (state >> 33) % n if n else 0
 
 
 def word(letters, length):

@@ -6,7 +6,7 @@ use pattern::Book;
 use rules::{Match, PatternID};
 
 /// Whether the bytes of a pattern stand in a text from a place on.
-fn stands(pattern: &[u8], text: &[u8], start: usize) -> bool
+pub fn stands(pattern: &[u8], text: &[u8], start: usize) -> bool
     ensures { MatchBool result (Stands pattern.now text.now start) (Stands pattern.now text.now start → ⊥) }
 {
     if start > text.len() || text.len() - start < pattern.len() {

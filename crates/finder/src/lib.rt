@@ -20,7 +20,7 @@ mod finder;
 mod plain;
 mod searcher;
 
-pub use compare::verify;
+pub use compare::{stands, verify};
 pub use finder::Finder;
 pub use plain::Plain;
 pub use searcher::Searcher;

@@ -78,6 +78,10 @@ module _ (keys order : List ℕ) where
   unfolding filled
   filled_next b i le = ap (λ q. below (key_of keys) order b ++ in_bucket (key_of keys) q b) (take_all i order le) ∙ (sym (below_next (key_of keys) order b) ∙ sym (append-nil (below (key_of keys) order (b + 1))))
 
+  -- the buckets have no more ids than the order
+  pub filled_few : (b : ℕ) → length (filled keys order b 0) ≤ length order
+  filled_few b = let key = key_of keys in omega (arith, ap length (filled_below b), length-below key order b, count_by-le-length (λ x. ltb (key x) b) order)
+
   -- while one of a bucket is still to come there is room
   pub filled_room : (b i : ℕ) → i < length order → get_or keys (get_or order i 0) 0 % hash_buckets ≡ b → length (filled keys order b i) < length order
   unfolding filled

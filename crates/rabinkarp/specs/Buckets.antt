@@ -10,7 +10,7 @@ abbrev pub in_bucket : (ℕ → ℕ) → List ℕ → ℕ → List ℕ
 in_bucket key order k = filter (λ id. nat_eq (key id) k) order
 
 abbrev pub bucket_ids : Buckets → ℕ → List ℕ
-bucket_ids s k = between (slice_index s.starts k) (slice_index s.starts (k + 1)) s.ids.items
+bucket_ids s k = between (slice_index s.starts k) (slice_index s.starts (k + 1)) s.ids
 
 abbrev pub Holds : Buckets → (ℕ → ℕ) → List ℕ → Type 0
 Holds s key order = (k : ℕ) → k < hash_buckets → bucket_ids s k ≡ in_bucket key order k

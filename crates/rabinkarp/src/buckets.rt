@@ -1,9 +1,7 @@
 ghost use Rattle.std.specs.Prelude.{◌≡◌, ℕ, ◌+◌, ◌%◌, ◌<◌, ◌≤◌, slice_index};
-ghost use Rattle.arrayvec.specs.ArrayVec.{array_vec_len};
-ghost use Rattle.rules.specs.Limits.{hash_buckets};
+ghost use Rattle.rules.specs.Limits.{hash_buckets, max_patterns};
 ghost use Rattle.pattern.specs.Order.{order_in};
 
-use arrayvec::ArrayVec;
 use pattern::{Book, MAX_PATTERNS};
 use rules::PatternID;
 
@@ -14,14 +12,15 @@ pub const NUM_BUCKETS: usize = 64;
 
 /// The ids of a book in buckets: those of all buckets one after another, and where each bucket starts. A list for each bucket
 /// would have to be as long as a book has patterns at the most, since all of them can lie in one bucket: 256 KB. The tables have
-/// the bounds of a book, so that making them cannot refuse.
-#[derive(Debug, Drop)]
+/// the bounds of a book, so that neither making nor copying them can refuse.
+#[derive(Clone, Copy, Debug)]
 pub struct Buckets {
-    ids: ArrayVec<PatternID, MAX_PATTERNS>,
+    /// What stands behind the end of the last bucket belongs to none.
+    ids: [PatternID; MAX_PATTERNS],
     /// Where each bucket starts, and at last where the last one ends.
     starts: [usize; NUM_BUCKETS + 1],
     ghost rising: { (k : ℕ) → k < hash_buckets → slice_index starts k ≤ slice_index starts (k + 1) },
-    ghost within: { (k : ℕ) → k < hash_buckets → slice_index starts (k + 1) ≤ array_vec_len ids },
+    ghost within: { (k : ℕ) → k < hash_buckets → slice_index starts (k + 1) ≤ max_patterns },
 }
 
 impl Buckets {
@@ -34,17 +33,18 @@ impl Buckets {
         ensures { Holds result (λ id. slice_index keys.now id % hash_buckets) (order_in book.now) }
     {
         let order = book.order();
-        let mut ids = ArrayVec::new();
+        let mut ids = [PatternID::ZERO; MAX_PATTERNS];
         let mut starts = [0; NUM_BUCKETS + 1];
+        let mut filled = 0;
         // Each bucket ends where the next one starts.
         for k in 0..NUM_BUCKETS {
             for id in order {
                 if keys[id.as_usize()] % NUM_BUCKETS == k {
-                    // One by one, since `extend` answers a `Result`.
-                    ids.push(*id);
+                    ids[filled] = *id;
+                    filled += 1;
                 }
             }
-            starts[k + 1] = ids.len();
+            starts[k + 1] = filled;
         }
         Buckets { ids, starts }
     }
@@ -54,6 +54,6 @@ impl Buckets {
         ensures { result.now ≡ bucket_ids self.now (key % hash_buckets) }
     {
         let k = key % NUM_BUCKETS;
-        &self.ids[self.starts[k]..self.starts[k + 1]]
+        &self.ids.as_slice()[self.starts[k]..self.starts[k + 1]]
     }
 }

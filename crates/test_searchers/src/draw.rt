@@ -1,21 +1,21 @@
 //! What is drawn with the numbers of a generator.
 
+use crate::numbers::Numbers;
 use pattern::{Book, Patterns};
 use rules::{Fault, MatchKind};
 use std::alloc::{AllocError, Global};
 use std::rc::Rc;
-use test_random::Xorshift;
 
 /// One of some values, or none where there are none.
-pub(crate) fn pick<'a, T>(random: &mut Xorshift, values: &'a [T]) -> Option<&'a T> {
+pub(crate) fn pick<'a, N: Numbers, T>(random: &mut N, values: &'a [T]) -> Option<&'a T> {
     let place = (random.next() as usize).checked_rem(values.len())?;
     values.get(place)
 }
 
 /// A word of so many of the letters.
-pub(crate) fn word(
+pub(crate) fn word<N: Numbers>(
     alloc: Global,
-    random: &mut Xorshift,
+    random: &mut N,
     letters: &[u8],
     len: usize,
 ) -> Result<Vec<u8>, AllocError> {
@@ -33,9 +33,9 @@ pub(crate) struct Shape {
 }
 
 /// A closed book of a shape and a kind.
-pub(crate) fn book(
+pub(crate) fn book<N: Numbers>(
     alloc: Global,
-    random: &mut Xorshift,
+    random: &mut N,
     shape: &Shape,
     kind: MatchKind,
 ) -> Result<Rc<Book>, Fault> {

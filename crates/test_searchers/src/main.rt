@@ -8,6 +8,7 @@ mod book;
 mod draw;
 mod example;
 mod masks;
+mod numbers;
 mod rolling;
 
 use anyhow::ensure;

@@ -17,7 +17,8 @@ use test_random::Xorshift;
 use vector::{ArrayHalf, Double, Single, Vector, WordHalf};
 
 /// What the mask searcher over one kind of vectors answers with each mask count from 1 to 4; those above the shortest length
-/// become that.
+/// become that. It is not inlined: so one searcher at a time takes up the stack.
+#[inline(never)]
 fn slim<V: Vector>(book: &Rc<Book>, text: &[u8], at: usize) -> Result<[Option<Match>; 4], Fault> {
     array::try_from_fn(|i| Ok(Slim::<V>::new(book.clone()?, i + 1).find(text, at)))
 }

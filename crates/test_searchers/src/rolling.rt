@@ -2,13 +2,13 @@
 
 use crate::book::closed;
 use crate::draw::{self, Shape, pick, word};
+use crate::numbers::{Congruential, Numbers};
 use anyhow::ensure;
-use finder::{Finder, Plain};
-use pattern::Book;
-use rabinkarp::{RabinKarp, hash, hash_2pow, update_hash};
+use finder::{Finder, Plain, stands};
+use pattern::{Book, MAX_PATTERNS};
+use rabinkarp::{Buckets, NUM_BUCKETS, RabinKarp, hash, hash_2pow, update_hash};
 use rules::MatchKind;
 use std::alloc::Global;
-use test_random::Xorshift;
 
 const ALL: &[u8] = b"ABCDEFGHIJKLMNOPQRSTUVWXYZ";
 
@@ -55,7 +55,10 @@ const SHAPES: [Shape; 9] = [
     },
     Shape {
         count: 8,
-        lens: &[300, 303, 310, 319],
+        lens: &[
+            300, 301, 302, 303, 304, 305, 306, 307, 308, 309, 310, 311, 312, 313, 314, 315, 316,
+            317, 318, 319,
+        ],
         letters: ALL,
     },
 ];
@@ -63,7 +66,7 @@ const SHAPES: [Shape; 9] = [
 /// Letters, with patterns of the book among them.
 fn drawn_text(
     alloc: Global,
-    random: &mut Xorshift,
+    random: &mut Congruential,
     book: &Book,
     letters: &[u8],
 ) -> anyhow::Result<Vec<u8>> {
@@ -78,7 +81,7 @@ fn drawn_text(
     Ok(text)
 }
 
-/// At how many places both searchers find a hit; an error where they differ.
+/// At how many places both searchers find a hit, whose pattern stands where it starts; an error where they differ.
 fn hits(plain: &Plain, rolling: &RabinKarp, text: &[u8]) -> anyhow::Result<usize> {
     let end = text.len();
     ensure!(
@@ -93,13 +96,14 @@ fn hits(plain: &Plain, rolling: &RabinKarp, text: &[u8]) -> anyhow::Result<usize
     );
     Ok(
         (0..=end)
-            .filter(|at| rolling.find(text, *at).is_some())
+            .filter_map(|at| rolling.find(text, at))
+            .filter(|hit| stands(rolling.book().get(hit.pattern), text, hit.start))
             .count(),
     )
 }
 
 /// At how many places both find a hit, over some books of a shape, of each kind, and a text for each.
-fn hits_of(alloc: Global, random: &mut Xorshift, shape: &Shape) -> anyhow::Result<usize> {
+fn hits_of(alloc: Global, random: &mut Congruential, shape: &Shape) -> anyhow::Result<usize> {
     let mut all = 0usize;
     for _ in 0..5 {
         for kind in [MatchKind::LeftmostFirst, MatchKind::LeftmostLongest] {
@@ -131,9 +135,27 @@ fn show_hashes(rt: &(impl Print + AllocGlobal)) -> anyhow::Result<()> {
     Ok(())
 }
 
+/// Copies of buckets have the same ids as those that they are made of; an error where they differ. It is not inlined: so the copies
+/// take up the stack here alone.
+#[inline(never)]
+fn copy_buckets(alloc: Global) -> anyhow::Result<()> {
+    let book = closed(alloc, MatchKind::LeftmostFirst, &[b"AC", b"BA", b"CA"])?;
+    let buckets = Buckets::new(&book, &[70; MAX_PATTERNS]);
+    let copied = buckets;
+    let cloned = buckets.clone()?;
+    ensure!(buckets.bucket(6) == book.order(), "not all in bucket 6");
+    ensure!(
+        (0..NUM_BUCKETS).all(|k| copied.bucket(k) == buckets.bucket(k)
+            && cloned.bucket(k) == buckets.bucket(k)),
+        "the copies differ"
+    );
+    Ok(())
+}
+
 pub(crate) fn run(rt: &(impl Print + AllocGlobal)) -> anyhow::Result<()> {
     show_hashes(rt)?;
-    let mut random = Xorshift::FIRST;
+    copy_buckets(rt.alloc())?;
+    let mut random = Congruential::FIRST;
     for shape in &SHAPES {
         let count = shape.count;
         let shortest = shape.lens.iter().min().copied().unwrap_or(0);
