@@ -29,7 +29,7 @@ impl Model for Book {
 
 impl Book {
     /// A book without patterns, of the first kind.
-    pub(crate) fn empty(alloc: Global) -> Book
+    pub fn empty(alloc: Global) -> Book
         ensures { result ≡ empty }
     {
         Book {

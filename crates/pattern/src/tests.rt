@@ -1,4 +1,4 @@
-use crate::Patterns;
+use crate::{Book, Patterns};
 use rules::{MatchKind, PatternID};
 use std::test::Fail;
 
@@ -16,5 +16,14 @@ fn the_longest_comes_first(rt: HostRuntime) -> Result<(), Fail> {
         [PatternID::from(1), PatternID::from(0)].as_slice()
     );
     assert_eq!(rt; book.get(PatternID::from(1)), b"DC-40-R".as_slice());
+    Ok(())
+}
+
+#[test]
+fn an_empty_book_has_no_pattern(rt: HostRuntime) -> Result<(), Fail> {
+    let book = Book::empty(rt.alloc());
+    assert!(rt; book.is_empty());
+    assert_eq!(rt; book.minimum_len(), usize::MAX);
+    assert_eq!(rt; book.match_kind(), MatchKind::LeftmostFirst);
     Ok(())
 }

@@ -8,8 +8,8 @@ use vector::Vector;
 /// For each low and each high nybble the buckets that it is admitted for, in each half.
 #[derive(Clone, Copy, Debug, PartialEq, Eq)]
 pub struct Mask<V> {
-    pub(crate) lo: V,
-    pub(crate) hi: V,
+    pub lo: V,
+    pub hi: V,
 }
 
 /// The low and the high nybble of each lane.

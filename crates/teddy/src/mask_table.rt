@@ -12,8 +12,8 @@ use pattern::{Book, MAX_PATTERNS};
 /// with `A` (0x41) and `R` (0x52) is admitted for `B` (0x42) and `Q` (0x51) too. So a candidate is only a place to compare at.
 #[derive(Clone, Copy, Debug, PartialEq, Eq)]
 pub struct MaskTable {
-    pub(crate) lo: [u8; 16],
-    pub(crate) hi: [u8; 16],
+    pub lo: [u8; 16],
+    pub hi: [u8; 16],
 }
 
 impl MaskTable {

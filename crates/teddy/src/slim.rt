@@ -26,7 +26,9 @@ impl<V: Vector> Slim<V> {
     ghost use Rattle.teddy.specs.Slim.{mask_count};
 
     /// A searcher over a closed book with `masks` masks; a count that is not permitted becomes the nearest one, and one that
-    /// `Patterns::check` permits stays. One of a book without patterns finds nothing.
+    /// `Patterns::check` permits stays. One of a book without patterns finds nothing. It is not inlined: so what the making needs of
+    /// the stack, several times what the searcher has, is given back before the first search.
+    #[inline(never)]
     pub fn new(book: Rc<Book>, masks: usize) -> Slim<V>
         ensures book { ⟦<Slim<V> as Finder>⟧.book result ≡ book.value }
         ensures masks { mask_count result ≡ nearest masks book.value }

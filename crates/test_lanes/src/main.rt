@@ -189,5 +189,7 @@ fn main(rt: HostRuntime) -> io::Result<()> {
     println!(rt;
         "lanes {single} and {double}, past the last {past_single} and {past_double}, the same of both halves: {same}"
     )?;
+    let made = ArrayHalf::new([7; 16]) == ArrayHalf::splat(7);
+    println!(rt; "a half made of its bytes has them as its lanes: {made}")?;
     println!(rt; "random: {} of 300 agree", agreements(300))
 }

@@ -4,3 +4,4 @@ pub mod Words
 pub mod Simd
 pub mod WordLanes
 pub mod Halves
+pub mod Loops

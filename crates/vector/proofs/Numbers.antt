@@ -1,5 +1,5 @@
 -- Laws of `all_zero`, and of `lanes_number`, the bytes of a list as one number.
-use Rattle.std.proofs.Common.{◌≡◌, ℕ, zero, suc, ◌+◌, ◌≤◌, Bool, true, false, ◌&&◌, eqb, List, [], ◌∷◌, ◌++◌, length, refl, arith}
+use Rattle.std.proofs.Common.{◌≡◌, ℕ, zero, suc, ◌+◌, ◌*◌, ◌^◌, ◌<◌, ◌≤◌, Bool, true, false, ◌&&◌, eqb, List, [], ◌∷◌, ◌++◌, length, refl, pow-suc, add-one, arith}
 use Rattle.std.specs.Prelude.{◌==◌, bit_or}
 use Rattle.std.specs.Int.Bits.{or_add_and}
 use Rattle.std.proofs.lemmas.Nat.{and_le_l, and_le_r}
@@ -30,10 +30,19 @@ zero_to (x ∷ xs) h zero = grind (arith, nat_tests)
 zero_to (x ∷ xs) h (suc i) = let t : all_zero xs ≡ true = grind (arith, nat_tests) in zero_to xs t i
 
 -- ---- lanes_number
+pub lanes_number_more : (n : ℕ) (xs : List ℕ) (p : ℕ) → lanes_number (n + 1) xs p ≡ lane xs p + 256 * lanes_number n xs (p + 1)
+unfolding lanes_number
+lanes_number_more n xs p = simp add-one
+
 pub lanes_number_past : (n : ℕ) (xs : List ℕ) (p : ℕ) → length xs ≤ p → lanes_number n xs p ≡ 0
 unfolding lanes_number
 lanes_number_past zero xs p h = refl
 lanes_number_past (suc n) xs p h = omega (arith, get_or_past xs p 0 h, lanes_number_past n xs (p + 1) (omega arith))
+
+pub lanes_number_lt : (n : ℕ) (xs : List ℕ) (p : ℕ) → ((i : ℕ) → lane xs i < 256) → lanes_number n xs p < 256 ^ n
+unfolding lanes_number
+lanes_number_lt zero xs p b = omega arith
+lanes_number_lt (suc n) xs p b = rw pow-suc (omega (arith, b p, lanes_number_lt n xs (p + 1) b))
 
 pub lanes_number-zero : (n : ℕ) (xs : List ℕ) (p : ℕ) → ((i : ℕ) → lane xs i ≡ 0) → lanes_number n xs p ≡ 0
 unfolding lanes_number

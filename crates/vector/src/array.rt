@@ -36,7 +36,7 @@ fn shifted(a: [u8; 16], b: [u8; 16], count: usize) -> [u8; 16]
 
 impl ArrayHalf {
     /// The half whose lanes are `bytes`.
-    pub(crate) fn new(bytes: [u8; 16]) -> ArrayHalf
+    pub fn new(bytes: [u8; 16]) -> ArrayHalf
         ensures { result.bytes ≡ bytes }
     {
         ArrayHalf { bytes }
