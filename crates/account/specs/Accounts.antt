@@ -24,7 +24,7 @@ use Rattle.account.specs.declared.account.Line.{Line}
 use Rattle.account.specs.declared.account.Summary.{Summary}
 use Rattle.account.specs.Texts.{accepted, ended, lines_of}
 
--- memory is wanted for the book that is shared, for the lines of a text before it is scanned, and for the tallies at the end
+-- memory is wanted for the book that is shared, for the list of a text's hits, for the lines of a text before it is scanned, and for the tallies at the end
 abbrev pub TextOrEnd : List Item → Option Fault → Type 0
 TextOrEnd [] s = s ≡ None
 TextOrEnd (i ∷ is) s = is_text i.entry ≡ true

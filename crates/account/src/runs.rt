@@ -1,6 +1,6 @@
-ghost use Rattle.std.specs.Prelude.{◌≡◌, ℕ, ◌<◌, ◌≤◌, min, [], length, Ok, Err, IfOk, IfErr, slice_index};
+ghost use Rattle.std.specs.Prelude.{◌≡◌, ℕ, ◌<◌, ◌≤◌, min, [], length, Ok, Err, vec_len, IfOk, IfErr, slice_index};
 ghost use Rattle.rules.specs.declared.fault.Refusal.TheVariants.{Memory};
-ghost use Rattle.rules.specs.Limits.{max_patterns, max_masks};
+ghost use Rattle.rules.specs.Limits.{max_patterns, max_masks, max_hits};
 ghost use Rattle.rules.specs.Book.{count_of, shortest};
 ghost use Rattle.rules.specs.Faults.{refused};
 ghost use Rattle.teddy.specs.Slim.{mask_count};
@@ -10,12 +10,12 @@ ghost use Rattle.job.specs.Opening.{opened};
 ghost use Rattle.account.specs.Accounts.{Sums, Accounts};
 
 use crate::account::{Account, Line, Summary};
-use crate::scans::scan_texts;
+use crate::scans::{list_of_hits, scan_texts};
 use finder::{Finder, Searcher};
 use intake::Intake;
 use job::{Reader, open};
 use pattern::{Book, MAX_MASKS};
-use rules::{Fault, PatternID};
+use rules::{Fault, Match, PatternID};
 use std::alloc::Global;
 use std::rc::Rc;
 use teddy::Slim;
@@ -34,18 +34,24 @@ fn tallies<F: Finder>(alloc: Global, intake: &Intake<F>, count: usize) -> Result
         .try_collect(alloc)
 }
 
-/// Scans the texts with a searcher, and sums up.
+/// Scans the texts with a searcher, and sums up. It is not inlined: so the intake takes up the stack only once the searcher is made.
+#[inline(never)]
 fn sum_up<F: Finder + Drop>(
     alloc: Global,
     finder: F,
     texts: Reader<'_>,
+    mut hits: Vec<Match>,
     lines: &mut Vec<Line>,
 ) -> Result<Summary, Fault>
-    requires { lines.old.items ≡ [] }
+    requires room { vec_len hits ≡ max_hits }
+    requires lines { lines.old.items ≡ [] }
     ensures { Sums (F.book finder) (reading texts.entry.job.now texts.entry.at) lines.new.items result }
 {
     let count = finder.pattern_count();
-    let intake = scan_texts(finder, texts, lines)?;
+    let mut intake = Intake::new(finder);
+    scan_texts(&mut intake, texts, hits.as_mut_slice(), lines)?;
+    // Its memory may serve the tallies.
+    drop(hits);
     let tallies = tallies(alloc, &intake, count)?;
     Ok(Summary {
         texts: intake.count(),
@@ -53,26 +59,44 @@ fn sum_up<F: Finder + Drop>(
     })
 }
 
-/// Opens a job, and shares its book with the searcher that is to be made of it.
-fn open_shared(alloc: Global, job: &[u8]) -> Result<(Rc<Book>, Reader<'_>), Fault>
-    ensures book { IfOk result (λ p. opened job.now ≡ Ok p.0.value) }
-    ensures left { IfOk result (λ p. reading p.1.job.now p.1.at ≡ texts (reading job.now 0)) }
+/// A job that is open: its book, to be shared with its searcher, its texts, and the list for the hits of each.
+#[derive(Debug, Drop)]
+struct OpenJob<'a> {
+    book: Rc<Book>,
+    texts: Reader<'a>,
+    hits: Vec<Match>,
+}
+
+/// Opens a job, and asks for all that its texts want before the first of them.
+fn open_job(alloc: Global, job: &[u8]) -> Result<OpenJob<'_>, Fault>
+    ensures book { IfOk result (λ j. opened job.now ≡ Ok j.book.value) }
+    ensures left { IfOk result (λ j. reading j.texts.job.now j.texts.at ≡ texts (reading job.now 0)) }
+    ensures room { IfOk result (λ j. vec_len j.hits ≡ max_hits) }
     ensures err { IfErr result (λ f. Accounts job.now [] (Err f)) }
 {
     let opened = open(alloc, job)?;
     let book = Rc::new(alloc, opened.book)?;
-    Ok((book, opened.texts))
+    let hits = list_of_hits(alloc)?;
+    Ok(OpenJob {
+        book,
+        texts: opened.texts,
+        hits,
+    })
 }
 
-/// The account of a job: of its texts, with a searcher of its book, or of the fault before them.
-fn account_of<F: Finder + Drop>(alloc: Global, opened: Result<(F, Reader<'_>), Fault>) -> Account
-    ensures texts { IfOk opened.entry (λ o. Sums (F.book o.0) (reading o.1.job.now o.1.at) result.lines.items result.end) }
-    ensures lines { IfErr opened.entry (λ _. result.lines.items ≡ []) }
-    ensures end { IfErr opened.entry (λ f. result.end ≡ Err f) }
+/// The account of a job, with the searcher that is made of its book.
+fn account_by<F: Finder + Drop, M: FnOnce(Rc<Book>) -> F + Drop>(
+    alloc: Global,
+    job: &[u8],
+    make: M,
+) -> Account
+    requires called { M.IsAlwaysCallable make }
+    requires made { (b : _) (f : F) → M.post make b f → F.book f ≡ b.value }
+    ensures { Accounts job.now result.lines.items result.end }
 {
     let mut lines = Vec::new(alloc);
-    let end = match opened {
-        Ok((finder, texts)) => sum_up(alloc, finder, texts, &mut lines),
+    let end = match open_job(alloc, job) {
+        Ok(OpenJob { book, texts, hits }) => sum_up(alloc, make(book), texts, hits, &mut lines),
         Err(fault) => Err(fault),
     };
     Account { lines, end }
@@ -82,8 +106,7 @@ fn account_of<F: Finder + Drop>(alloc: Global, opened: Result<(F, Reader<'_>), F
 pub fn run_with<S: Searcher + Drop>(alloc: Global, job: &[u8], setting: S::Setting) -> Account
     ensures { Accounts job.now result.lines.items result.end }
 {
-    let opened = open_shared(alloc, job).map(|(book, texts)| (S::over(book, setting), texts));
-    account_of(alloc, opened)
+    account_by(alloc, job, |book| S::over(book, setting))
 }
 
 /// The searcher with as many masks as its book permits, over one array half.
@@ -98,6 +121,5 @@ fn searcher(book: Rc<Book>) -> Slim<Single<ArrayHalf>>
 pub fn run(alloc: Global, job: &[u8]) -> Account
     ensures { Accounts job.now result.lines.items result.end }
 {
-    let opened = open_shared(alloc, job).map(|(book, texts)| (searcher(book), texts));
-    account_of(alloc, opened)
+    account_by(alloc, job, searcher)
 }

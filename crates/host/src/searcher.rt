@@ -2,7 +2,7 @@ ghost use Rattle.std.specs.Prelude.{◌≡◌, IfOk};
 ghost use Rattle.rules.specs.Search.{found};
 ghost use Rattle.host.specs.Searchers.{searcher_of, permits};
 
-use finder::{Finder, Plain};
+use finder::{Plain, Searcher};
 use pattern::Book;
 use rabinkarp::RabinKarp;
 use rules::Match;
@@ -45,13 +45,27 @@ impl SearcherKind {
         let shared = Rc::new(alloc, book)?;
         // Three types of searchers, so a match: the C interface has these three.
         Ok(match self {
-            SearcherKind::Plain => Plain::new(shared).find(text, at),
-            SearcherKind::RollingHash => RabinKarp::new(shared).find(text, at),
-            SearcherKind::Masks(count) => Slim::<Single<ArrayHalf>>::new(shared, count).find(
-                text, at,
-            ),
+            SearcherKind::Plain => find_by::<Plain>(shared, (), text, at),
+            SearcherKind::RollingHash => find_by::<RabinKarp>(shared, (), text, at),
+            SearcherKind::Masks(count) => {
+                find_by::<Slim<Single<ArrayHalf>>>(shared, count, text, at)
+            }
         })
     }
+}
+
+/// The first hit in a text from a place on, by a searcher of the kind `S`, made with a setting. It is not inlined: so the searcher that
+/// is asked for takes up the stack, and no other one.
+#[inline(never)]
+fn find_by<S: Searcher + Drop>(
+    book: Rc<Book>,
+    setting: S::Setting,
+    text: &[u8],
+    at: usize,
+) -> Option<Match>
+    ensures { result ≡ found book.value text.now at }
+{
+    S::over(book, setting).find(text, at)
 }
 
 /// Whether a book permits a searcher, which may have a mask count.

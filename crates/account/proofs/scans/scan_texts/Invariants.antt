@@ -4,8 +4,8 @@ use Rattle.job.specs.Reading.{reading}
 use Rattle.account.specs.Texts.{accepted, ended, lines_of}
 use Rattle.account.proofs.scans.scan_texts.Given as goal
 
-abbrev pub invariant-loop-intake : goal.invariant-loop-intake
-invariant-loop-intake g l =
+abbrev pub invariant-loop-placed : goal.invariant-loop-placed
+invariant-loop-placed g l =
     let b = l.initial.intake.book in
     let job = l.initial.texts.job.now in
     let first = reading job l.initial.texts.at in
@@ -21,5 +21,5 @@ invariant-loop-intake g l =
       stop : first.stop ≡ left.stop;
     }
 
-abbrev pub decreases-loop-intake : goal.decreases-loop-intake
-decreases-loop-intake g l = length l.texts.job.now - l.texts.at
+abbrev pub decreases-loop-placed : goal.decreases-loop-placed
+decreases-loop-placed g l = length l.texts.job.now - l.texts.at
