@@ -23,6 +23,12 @@ fn slim<V: Vector>(book: &Rc<Book>, text: &[u8], at: usize) -> Result<[Option<Ma
     array::try_from_fn(|i| Ok(Slim::<V>::new(book.clone()?, i + 1).find(text, at)))
 }
 
+/// What the rolling hash answers. It is not inlined either.
+#[inline(never)]
+fn rolling(book: Rc<Book>, text: &[u8], at: usize) -> Option<Match> {
+    RabinKarp::new(book).find(text, at)
+}
+
 /// How many of the sixteen mask searchers and the rolling hash answer `want`.
 fn agree(book: &Rc<Book>, text: &[u8], at: usize, want: Option<Match>) -> Result<usize, Fault>
     ensures { IfOk result (λ n. n ≤ 17) }
@@ -33,7 +39,7 @@ fn agree(book: &Rc<Book>, text: &[u8], at: usize, want: Option<Match>) -> Result
         slim::<Double<ArrayHalf>>(book, text, at)?,
         slim::<Double<WordHalf>>(book, text, at)?,
     ];
-    let rolling = [RabinKarp::new(book.clone()?).find(text, at)];
+    let rolling = [rolling(book.clone()?, text, at)];
     let hits = slim.as_flattened().iter().chain(&rolling);
     Ok(hits.filter(|hit| **hit == want).count())
 }
