@@ -13,8 +13,8 @@ impl Numbers for Xorshift {
     }
 }
 
-/// A linear congruential generator, of whose 64 bits of state the upper 31 are the numbers. The books and texts of the rolling hash have
-/// always been drawn with it: with another one the counts of their hits that are printed would be others.
+/// A linear congruential generator, of whose 64 bits of state the upper 31 are the numbers. The books and texts of the rolling hash are
+/// drawn with it, so that the counts of their hits that are printed stay as they were: with another one they would be others.
 #[derive(Clone, Copy, Debug, PartialEq, Eq)]
 pub(crate) struct Congruential {
     state: u64,
